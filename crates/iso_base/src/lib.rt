@@ -1,0 +1,12 @@
+//! The outside of the program, as its calls see it: shelves that give the bytes of files, sinks that take bytes,
+//! and both in memory.
+//!
+//! A call that is lent a shelf or a sink can fail only as these contracts say. Each failure raises a count of
+//! faults, so that whoever reads a contract knows that no call blames the outside without a cause.
+#![tactic(auto)]
+
+mod outside;
+mod put;
+
+pub use outside::{Failed, Memory, Shelf, Sink};
+pub use put::put_all;
