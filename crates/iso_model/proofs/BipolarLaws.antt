@@ -12,7 +12,8 @@ use Rattle.iso_model.specs.Values.{Volume, cells}
 use Rattle.iso_model.specs.Bipolar.{is_bipolar, cell_edges, kept_edges, bipolar_edges, AreBipolarEdges}
 use Rattle.iso_model.proofs.Deciding.{below_contained}
 use Rattle.iso_model.proofs.FaceLaws.{Contains-head, Contains-tail, Contains-split, Contains-filter, cells_below}
-use Rattle.iso_model.proofs.OrderLaws.{ascends_steps, steps_ascend, ascending-ascends, ascending-members, ascending-all, ascends-same}
+use Rattle.iso_model.proofs.FixedLists.{ascends_by_steps, fixed_by}
+use Rattle.iso_model.proofs.OrderLaws.{Earlier, keys_strict, ascending-ascends, ascending-members, ascending-all}
 
 -- ---- members of lists that are made of others
 
@@ -92,12 +93,11 @@ wide v e c =
 pub bipolar_edges-are : (v : Volume) → HaveOwnMidpoints v.kind v.sizes → AreBipolarEdges v (bipolar_edges v)
 unfolding bipolar_edges
 bipolar_edges-are v law = record {
-  ascends = ascends_steps midpoint (bipolar_edges v) (ascending-ascends midpoint (length v.sizes) (bipolar_ones v) (wide v));
+  ascends = ascends_by_steps (Earlier midpoint) (bipolar_edges v) (ascending-ascends midpoint (length v.sizes) (bipolar_ones v) (wide v));
   members = λ e. (ascending-members midpoint (bipolar_ones v) e, ascending-all midpoint (bipolar_ones v) (own v law) e);
 }
 
 pub bipolar_edges-fixed : (v : Volume) → HaveOwnMidpoints v.kind v.sizes → (edges : List Edge) → AreBipolarEdges v edges → edges ≡ bipolar_edges v
 bipolar_edges-fixed v law edges are =
     let have = bipolar_edges-are v law in
-    ascends-same midpoint edges (bipolar_edges v) (steps_ascend midpoint edges are.ascends) (steps_ascend midpoint (bipolar_edges v) have.ascends)
-    (λ e. (λ c. (have.members e).1 ((are.members e).0 c), λ c. (are.members e).1 ((have.members e).0 c)))
+    fixed_by (Earlier midpoint) (λ e. Contains (bipolar_ones v) e) (keys_strict midpoint) edges (bipolar_edges v) are.ascends have.ascends are.members have.members

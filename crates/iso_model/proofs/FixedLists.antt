@@ -1,13 +1,13 @@
 -- A list that ascends by a strict order is fixed by its members: so facets, pulled simplices and entries are fixed by what is said of them.
-use Rattle.std.specs.Prelude.{◌≡◌, ◌<◌, ◌+◌, ◌⊎◌, ◌↔◌, ◌==◌, ℕ, zero, suc, ℤ, Bool, true, false, ◌&&◌, ◌||◌, nat_lt, List, [], ◌∷◌, map, length, slice_index_or, Contains, IsTrue, ⊤}
+use Rattle.std.specs.Prelude.{◌≡◌, ◌<◌, ◌+◌, ◌⊎◌, ◌↔◌, ◌==◌, ℕ, zero, suc, ℤ, true, ◌&&◌, nat_lt, List, [], ◌∷◌, map, length, slice_index_or, Contains, IsTrue, ⊤}
 use Rattle.std.specs.List.{AllAdjacentBelow}
 use Rattle.std.proofs.Common.{refl, sym, ap, ◌∙◌, arith, subst, inl, inr}
 use Rattle.std.proofs.lemmas.Bool.{false≢true}
-use Rattle.std.proofs.lemmas.Bool.Decides.{nat_tests}
 use Rattle.iso_model.specs.declared.Kind.{Kind}
 use Rattle.iso_model.specs.Orders.{comes_before}
 use Rattle.iso_model.specs.Hulls.{AreFacets, ArePulled, set_number}
 use Rattle.iso_model.specs.Entries.{IsEntryOf, oriented}
+use Rattle.iso_model.proofs.Deciding.{Contains-at, either, both, left_or, right_or, lt_of, of_lt, equal_of, of_equal}
 use Rattle.iso_model.proofs.FaceLaws.{Contains-head, Contains-tail, Contains-split}
 
 -- ---- a strict order
@@ -27,7 +27,14 @@ none x c = let h : c.0 < 0 = c.1 in omega arith
 next_place : (k : ℕ) → suc (k + 1) ≡ suc k + 1
 next_place k = omega arith
 
-before_all : {X : Type 0} (R : X → X → Type 0) → IsStrict R → (x y : X) (ys : List X) → R x y → AscendsBy R (y ∷ ys) → (z : X) → Contains (y ∷ ys) z → R x z
+pub ascends_by_steps : {X : Type 0} (R : X → X → Type 0) (xs : List X) → AscendsBy R xs → AllAdjacentBelow R xs (length xs)
+ascends_by_steps R [] a k d h = absurd (omega (arith, h))
+ascends_by_steps R (x ∷ xs) a zero d h = a.0 _ (Contains-at xs 0 d (omega (arith, h)))
+ascends_by_steps R (x ∷ xs) a (suc k) d h =
+    subst (λ (n : ℕ). R (slice_index_or xs k d) (slice_index_or (x ∷ xs) n d)) (next_place k) (ascends_by_steps R xs a.1 k d (omega (arith, h)))
+
+-- what stands before the first stands before all
+pub before_all : {X : Type 0} (R : X → X → Type 0) → IsStrict R → (x y : X) (ys : List X) → R x y → AscendsBy R (y ∷ ys) → (z : X) → Contains (y ∷ ys) z → R x z
 before_all R strict x y ys b a z c = elim (Contains-split z y ys c) as (λ _. R x z) [
   | inl e ↦ subst (λ w. R x w) e b
   | inr m ↦ strict.transitive x y z b (a.0 z m)
@@ -58,7 +65,7 @@ rest_in R strict x y xs ys a e z c d = elim (Contains-split z y ys d) as (λ _. 
   | inr m ↦ m
 ]
 
-ascends_same : {X : Type 0} (R : X → X → Type 0) → IsStrict R → (xs ys : List X) → AscendsBy R xs → AscendsBy R ys → ((z : X) → Contains xs z ↔ Contains ys z) → xs ≡ ys
+pub ascends_same : {X : Type 0} (R : X → X → Type 0) → IsStrict R → (xs ys : List X) → AscendsBy R xs → AscendsBy R ys → ((z : X) → Contains xs z ↔ Contains ys z) → xs ≡ ys
 ascends_same R strict [] [] a b same = refl
 ascends_same R strict [] (y ∷ ys) a b same = absurd (none y ((same y).1 (Contains-head y ys)))
 ascends_same R strict (x ∷ xs) [] a b same = absurd (none x ((same x).0 (Contains-head x xs)))
@@ -77,34 +84,6 @@ fixed_by R P strict xs ys a b p q =
     ascends_same R strict xs ys (steps_ascend_by R strict xs a) (steps_ascend_by R strict ys b) (λ z. (λ c. (q z).1 ((p z).0 c), λ c. (p z).1 ((q z).0 c)))
 
 -- ---- tuples, place by place
-
-either : (a b : Bool) → (a || b) ≡ true → (a ≡ true) ⊎ (b ≡ true)
-either true b e = inl refl
-either false b e = inr e
-
-both : (a b : Bool) → (a && b) ≡ true → (a ≡ true) × (b ≡ true)
-both true b e = (refl, e)
-both false b e = absurd (cc)
-
-left_or : (a b : Bool) → a ≡ true → (a || b) ≡ true
-left_or true b e = refl
-left_or false b e = absurd (cc)
-
-right_or : (a b : Bool) → b ≡ true → (a || b) ≡ true
-right_or true b e = refl
-right_or false b e = e
-
-lt_of : (a b : ℕ) → nat_lt a b ≡ true → a < b
-lt_of a b e = grind (arith, nat_tests)
-
-of_lt : (a b : ℕ) → a < b → nat_lt a b ≡ true
-of_lt a b h = grind (arith, nat_tests)
-
-equal_of : (a b : ℕ) → (a == b) ≡ true → a ≡ b
-equal_of a b e = grind (arith, nat_tests)
-
-of_equal : (a b : ℕ) → a ≡ b → (a == b) ≡ true
-of_equal a b e = grind (arith, nat_tests)
 
 abbrev Sooner : ℕ → List ℕ → ℕ → List ℕ → Type 0
 Sooner x p y q = (x < y) ⊎ ((x ≡ y) × (comes_before p q ≡ true))

@@ -1,41 +1,19 @@
--- A list put in ascending order of keys ascends, and has the members of the list; and a list that ascends is fixed by its members.
-use Rattle.std.specs.Prelude.{◌≡◌, ◌<◌, ◌+◌, ◌⊎◌, ◌↔◌, ℕ, zero, suc, Bool, true, false, ◌&&◌, ◌||◌, nat_lt, List, [], ◌∷◌, length, slice_index_or, Contains, if◌then◌else◌, ⊤}
-use Rattle.std.specs.List.{AllAdjacentBelow}
+-- The order "last coordinate first" is strict, and of two points of one dimension that differ one comes first; a list put in this order of keys ascends and has the members of the list.
+use Rattle.std.specs.Prelude.{◌≡◌, ◌<◌, ◌⊎◌, ℕ, Bool, true, false, ◌&&◌, nat_lt, List, [], ◌∷◌, length, Contains, if◌then◌else◌}
 use Rattle.std.proofs.Common.{refl, sym, ap, ◌∙◌, arith, subst, inl, inr}
 use Rattle.std.proofs.lemmas.Bool.{false≢true}
 use Rattle.std.proofs.lemmas.Bool.Decides.{nat_tests}
 use Rattle.std.proofs.lemmas.Slice.Eq.{bytes_eq-Decides}
 use Rattle.iso_model.specs.Orders.{same_list}
 use Rattle.iso_model.specs.Points.{comes_first, entered, ascending}
-use Rattle.iso_model.proofs.Deciding.{Contains-at}
+use Rattle.iso_model.proofs.Deciding.{either, both, left_or, right_or, lt_of, of_lt}
 use Rattle.iso_model.proofs.FaceLaws.{Contains-head, Contains-tail, Contains-split}
+use Rattle.iso_model.proofs.FixedLists.{IsStrict, AscendsBy, before_all}
 
 -- ---- last coordinate first
 
 same_self : (p : List ℕ) → same_list p p ≡ true
 same_self p = (bytes_eq-Decides p p).1 refl
-
-either : (a b : Bool) → (a || b) ≡ true → (a ≡ true) ⊎ (b ≡ true)
-either true b e = inl refl
-either false b e = inr e
-
-both : (a b : Bool) → (a && b) ≡ true → (a ≡ true) × (b ≡ true)
-both true b e = (refl, e)
-both false b e = absurd (cc)
-
-left_or : (a b : Bool) → a ≡ true → (a || b) ≡ true
-left_or true b e = refl
-left_or false b e = absurd (cc)
-
-right_or : (a b : Bool) → b ≡ true → (a || b) ≡ true
-right_or true b e = refl
-right_or false b e = e
-
-lt_of : (a b : ℕ) → nat_lt a b ≡ true → a < b
-lt_of a b e = grind (arith, nat_tests)
-
-of_lt : (a b : ℕ) → a < b → nat_lt a b ≡ true
-of_lt a b h = grind (arith, nat_tests)
 
 -- the one point before the other, by the parts of the test
 abbrev Before : ℕ → List ℕ → ℕ → List ℕ → Type 0
@@ -96,44 +74,15 @@ comes_first-total [] (y ∷ q) l = absurd (omega arith)
 comes_first-total (x ∷ p) [] l = absurd (omega arith)
 comes_first-total (x ∷ p) (y ∷ q) l = in_order x p y q (comes_first-total p q (omega (arith, l)))
 
--- ---- lists that ascend
+-- the key of the one comes first
+abbrev pub Earlier : {X : Type 0} → (X → List ℕ) → X → X → Type 0
+Earlier key x y = comes_first (key x) (key y) ≡ true
 
--- each member's key comes before those of all later ones
-abbrev pub Ascends : {X : Type 0} → (X → List ℕ) → List X → Type 0
-Ascends key [] = ⊤
-Ascends {X} key (x ∷ xs) = ((y : X) → Contains xs y → comes_first (key x) (key y) ≡ true) × Ascends key xs
+pub keys_strict : {X : Type 0} (key : X → List ℕ) → IsStrict (Earlier key)
+keys_strict key = record { irreflexive = λ x e. comes_first-irreflexive (key x) e; transitive = λ x y z a b. comes_first-trans (key x) (key y) (key z) a b }
 
-nothing_in : {X : Type 0} (x : X) → Contains [] x → ⊥
-nothing_in x c = let h : c.0 < 0 = c.1 in omega arith
-
-next_place : (k : ℕ) → suc (k + 1) ≡ suc k + 1
-next_place k = omega arith
-
-pub ascends_steps : {X : Type 0} (key : X → List ℕ) (xs : List X) → Ascends key xs → AllAdjacentBelow (λ x y. comes_first (key x) (key y) ≡ true) xs (length xs)
-ascends_steps key [] a k d h = absurd (omega (arith, h))
-ascends_steps key (x ∷ xs) a zero d h = a.0 _ (Contains-at xs 0 d (omega (arith, h)))
-ascends_steps key (x ∷ xs) a (suc k) d h =
-    subst (λ (n : ℕ). comes_first (key (slice_index_or xs k d)) (key (slice_index_or (x ∷ xs) n d)) ≡ true) (next_place k) (ascends_steps key xs a.1 k d (omega (arith, h)))
-
-steps_tail : {X : Type 0} (key : X → List ℕ) (x : X) (xs : List X)
-    → AllAdjacentBelow (λ x y. comes_first (key x) (key y) ≡ true) (x ∷ xs) (length (x ∷ xs)) → AllAdjacentBelow (λ x y. comes_first (key x) (key y) ≡ true) xs (length xs)
-steps_tail key x xs a =
-    λ k d h. subst (λ (n : ℕ). comes_first (key (slice_index_or xs k d)) (key (slice_index_or (x ∷ xs) n d)) ≡ true) (sym (next_place k)) (a (suc k) d (omega (arith, h)))
-
--- where it comes before the first it comes before all
-before_all : {X : Type 0} (key : X → List ℕ) (p : List ℕ) (y : X) (ys : List X) → comes_first p (key y) ≡ true → Ascends key (y ∷ ys)
-    → (z : X) → Contains (y ∷ ys) z → comes_first p (key z) ≡ true
-before_all key p y ys b a z c = elim (Contains-split z y ys c) as (λ _. comes_first p (key z) ≡ true) [
-  | inl e ↦ subst (λ w. comes_first p (key w) ≡ true) e b
-  | inr more ↦ comes_first-trans p (key y) (key z) b (a.0 z more)
-]
-
-pub steps_ascend : {X : Type 0} (key : X → List ℕ) (xs : List X) → AllAdjacentBelow (λ x y. comes_first (key x) (key y) ≡ true) xs (length xs) → Ascends key xs
-steps_ascend key [] a = tt
-steps_ascend key (x ∷ []) a = (λ y c. absurd (nothing_in y c), tt)
-steps_ascend key (x ∷ y ∷ ys) a =
-    let more = steps_ascend key (y ∷ ys) (steps_tail key x (y ∷ ys) a) in
-    (before_all key (key x) y ys (a 0 x (omega arith)) more, more)
+none : {X : Type 0} (x : X) → Contains [] x → ⊥
+none x c = let h : c.0 < 0 = c.1 in omega arith
 
 -- ---- lists put in order
 
@@ -164,7 +113,7 @@ entered-members {X} key x (y ∷ ys) z c = cases key x y ys (λ l. Contains l z 
     c
 
 pub entered-keeps : {X : Type 0} (key : X → List ℕ) (x : X) (ys : List X) (z : X) → Contains ys z → Contains (entered key x ys) z
-entered-keeps key x [] z c = absurd (nothing_in z c)
+entered-keeps key x [] z c = absurd (none z c)
 entered-keeps key x (y ∷ ys) z c = cases key x y ys (λ l. Contains l z)
     (λ e. Contains-tail z x (y ∷ ys) c)
     (λ e. c)
@@ -181,10 +130,10 @@ entered-takes key x (y ∷ ys) own = cases key x y ys (λ l. Contains l x)
     (λ e. subst (λ w. Contains (y ∷ ys) w) (sym (own y (Contains-head y ys) e)) (Contains-head y ys))
     (λ a b. Contains-tail x y (entered key x ys) (entered-takes key x ys (λ z c. own z (Contains-tail z y ys c))))
 
-pub entered-ascends : {X : Type 0} (key : X → List ℕ) (x : X) (ys : List X) → ((y : X) → Contains ys y → length (key x) ≡ length (key y)) → Ascends key ys → Ascends key (entered key x ys)
-entered-ascends key x [] wide a = (λ y c. absurd (nothing_in y c), tt)
-entered-ascends {X} key x (y ∷ ys) wide a = cases key x y ys (λ l. Ascends key l)
-    (λ e. (before_all key (key x) y ys e a, a))
+pub entered-ascends : {X : Type 0} (key : X → List ℕ) (x : X) (ys : List X) → ((y : X) → Contains ys y → length (key x) ≡ length (key y)) → AscendsBy (Earlier key) ys → AscendsBy (Earlier key) (entered key x ys)
+entered-ascends key x [] wide a = (λ y c. absurd (none y c), tt)
+entered-ascends {X} key x (y ∷ ys) wide a = cases key x y ys (λ l. AscendsBy (Earlier key) l)
+    (λ e. (before_all (Earlier key) (keys_strict key) x y ys e a, a))
     (λ e. a)
     (λ n m. (
       λ z c. elim (entered-members key x ys z c) as (λ _. comes_first (key y) (key z) ≡ true) [
@@ -217,41 +166,8 @@ ascending-all key (x ∷ xs) own z c =
     ]
 
 -- where all keys have one length, the list ascends
-pub ascending-ascends : {X : Type 0} (key : X → List ℕ) (n : ℕ) (xs : List X) → ((x : X) → Contains xs x → length (key x) ≡ n) → Ascends key (ascending key xs)
+pub ascending-ascends : {X : Type 0} (key : X → List ℕ) (n : ℕ) (xs : List X) → ((x : X) → Contains xs x → length (key x) ≡ n) → AscendsBy (Earlier key) (ascending key xs)
 ascending-ascends key n [] wide = tt
 ascending-ascends key n (x ∷ xs) wide =
     entered-ascends key x (ascending key xs) (λ y c. wide x (Contains-head x xs) ∙ sym (wide y (Contains-tail y x xs (ascending-members key xs y c))))
     (ascending-ascends key n xs (λ y c. wide y (Contains-tail y x xs c)))
-
--- ---- lists that ascend and have the same members are the same
-
-same_heads : {X : Type 0} (key : X → List ℕ) (x y : X) (xs ys : List X) → Ascends key (x ∷ xs) → Ascends key (y ∷ ys) → Contains (y ∷ ys) x → Contains (x ∷ xs) y → x ≡ y
-same_heads key x y xs ys a b cx cy = elim (Contains-split x y ys cx) as (λ _. x ≡ y) [
-  | inl e ↦ sym e
-  | inr m ↦ elim (Contains-split y x xs cy) as (λ _. x ≡ y) [
-    | inl e ↦ e
-    | inr n ↦ absurd (comes_first-irreflexive (key x) (comes_first-trans (key x) (key y) (key x) (a.0 y n) (b.0 x m)))
-  ]
-]
-
--- a later member of a list that ascends is not its first
-later : {X : Type 0} (key : X → List ℕ) (x : X) (xs : List X) → Ascends key (x ∷ xs) → Contains xs x → ⊥
-later key x xs a c = comes_first-irreflexive (key x) (a.0 x c)
-
-rest_in : {X : Type 0} (key : X → List ℕ) (x y : X) (xs ys : List X) → Ascends key (x ∷ xs) → x ≡ y → (z : X) → Contains xs z → Contains (y ∷ ys) z → Contains ys z
-rest_in key x y xs ys a e z c d = elim (Contains-split z y ys d) as (λ _. Contains ys z) [
-  | inl f ↦ absurd (later key x xs a (subst (λ w. Contains xs w) (sym (e ∙ f)) c))
-  | inr m ↦ m
-]
-
-pub ascends-same : {X : Type 0} (key : X → List ℕ) (xs ys : List X) → Ascends key xs → Ascends key ys → ((z : X) → Contains xs z ↔ Contains ys z) → xs ≡ ys
-ascends-same key [] [] a b same = refl
-ascends-same key [] (y ∷ ys) a b same = absurd (nothing_in y ((same y).1 (Contains-head y ys)))
-ascends-same key (x ∷ xs) [] a b same = absurd (nothing_in x ((same x).0 (Contains-head x xs)))
-ascends-same {X} key (x ∷ xs) (y ∷ ys) a b same =
-    let e = same_heads key x y xs ys a b ((same x).0 (Contains-head x xs)) ((same y).1 (Contains-head y ys)) in
-    let r = ascends-same key xs ys a.1 b.1 (λ z. (
-      λ c. rest_in key x y xs ys a e z c ((same z).0 (Contains-tail z x xs c)),
-      λ c. rest_in key y x ys xs b (sym e) z c ((same z).1 (Contains-tail z y ys c)),
-    )) in
-    cc
