@@ -1,5 +1,5 @@
 -- Files found by name, place by place.
-use Rattle.std.proofs.Common.{◌≡◌, ℕ, ◌+◌, ◌<◌, List, [], ◌∷◌, length, get_or, drop, Option, Some, None, true, false, refl, ap, sym, ◌∙◌, add-one, drop-cons, cond, suc}
+use Rattle.std.proofs.Common.{◌≡◌, ℕ, ◌+◌, ◌<◌, List, [], ◌∷◌, length, get_or, drop, Option, Some, None, true, false, ap, sym, ◌∙◌, add-one, drop-cons, cond, suc}
 use Rattle.std.proofs.Math.Seq.{drop-nil}
 use Rattle.std.proofs.lemmas.List.{drop-drop, get_or_default}
 use Rattle.std.specs.Str.{bytes_eq}
@@ -14,8 +14,8 @@ first_of files place file read h = rw add-one (drop-cons files place file h ∙ 
 pub file_bytes-here : (files : Files) (place : ℕ) (file : List ℕ × List ℕ) (name : List ℕ) → file ≡ get_or files place file → place < length files → bytes_eq file.0 name ≡ true → file_bytes (drop place files) name ≡ Some (bytes_at files place)
 file_bytes-here files place file name read h same =
     ap (λ rest. file_bytes rest name) (first_of files place file read h)
-      ∙ ap (λ test. cond test (Some file.1) (file_bytes (drop (place + 1) files) name)) same
-      ∙ ap (λ at. Some at.1) (read ∙ get_or_default files place file ([], []) h)
+    ∙ ap (λ test. cond test (Some file.1) (file_bytes (drop (place + 1) files) name)) same
+    ∙ ap (λ at. Some at.1) (read ∙ get_or_default files place file ([], []) h)
 
 -- the file at this place has another name
 pub file_bytes-next : (files : Files) (place : ℕ) (file : List ℕ × List ℕ) (name : List ℕ) → file ≡ get_or files place file → place < length files → bytes_eq file.0 name ≡ false → file_bytes (drop place files) name ≡ file_bytes (drop (place + 1) files) name

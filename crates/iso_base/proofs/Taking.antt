@@ -10,6 +10,7 @@ consumed old new front buf count step is_front is_new is_count some =
     let long : count ≤ length old = omega arith in
     let counted : length front ≡ count = ap length is_front ∙ length-take-le count old long in
     let begins : take count (front ++ drop count buf) ≡ take count old = take_at front (drop count buf) count counted ∙ is_front in
-    let room : length (front ++ drop count buf) ≡ length buf = omega (arith, length-append front (drop count buf), length-drop count buf) in
-    (sym (take-append-drop count old) ∙ ap (λ xs. xs ++ drop count old) (sym begins) ∙ ap (λ xs. take count (front ++ drop count buf) ++ xs) (sym is_new),
-      λ none has_room. let ends : length old ≤ count = omega arith in is_new ∙ drop_of_length-le old ends)
+    let room : length (front ++ drop count buf) ≡ length buf = omega (arith, length-append front (drop count buf), length-drop count buf) in (
+      sym (take-append-drop count old) ∙ ap (λ xs. xs ++ drop count old) (sym begins) ∙ ap (λ xs. take count (front ++ drop count buf) ++ xs) (sym is_new),
+      λ none has_room. let ends : length old ≤ count = omega arith in is_new ∙ drop_of_length-le old ends,
+    )

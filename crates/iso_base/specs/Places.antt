@@ -1,5 +1,5 @@
 -- Where in a list of files a shelf stands.
-use Rattle.std.specs.Prelude.{ℕ, ◌<◌, ◌≤◌, List, [], length, Option, Some, None, MatchOption, ⊤, drop, slice_index_or}
+use Rattle.std.specs.Prelude.{ℕ, ◌<◌, ◌≤◌, List, [], length, Option, Some, None, ⊤, drop, slice_index_or}
 use Rattle.iso_base.specs.Files.{Files}
 
 -- the bytes of the file at this place of the list

@@ -113,10 +113,15 @@ fn rest(files: &[MemFile], begun: Option<usize>, start: usize) -> &[u8]
 
 impl Shelf for MemShelf {
     ghost files = { λ s. Some s.files };
+
     ghost rest = { λ s. Some s.rest };
+
     ghost faults = { λ s. s.calls.faults };
+
     ghost sound = { λ s. s.calls.fail ≡ [] };
+
     ghost sound_tells = { Prim.search rules };
+
     ghost rest_told = { Prim.search rules };
 
     fn begin(&mut self, name: &str) -> Result<(), Failed>
@@ -164,5 +169,65 @@ impl Shelf for MemShelf {
         buf[..count].copy_from_slice(&rest[..count]);
         self.start += count;
         Ok(count)
+    }
+}
+
+#[cfg(test)]
+mod tests {
+    use super::*;
+    use std::alloc::{AllocError, Global};
+    use std::test::Fail;
+
+    fn file(alloc: Global, name: &str, bytes: &str) -> Result<MemFile, AllocError>
+        ensures { IfOk result (λ file. file ≡ (name.now, bytes.now)) }
+    {
+        Ok(MemFile {
+            name: String::from_str(alloc, name)?,
+            bytes: Vec::from_slice(alloc, bytes.as_bytes())?,
+        })
+    }
+
+    #[test]
+    fn each_call_gives_bytes_or_fails(rt: HostRuntime) -> Result<(), Fail> {
+        let alloc = rt.alloc();
+        let mut files = Vec::new(alloc);
+        files.push(file(alloc, "a", "abc")?)?;
+        files.push(file(alloc, "b", "")?)?;
+        let fail = Vec::from_slice(alloc, &[1, 6])?;
+        let mut shelf = MemShelf::new(files, fail, 2);
+        // The name to begin, or none to take into this much room; the bytes that come; the count of a failure, or 0.
+        let calls = [
+            ("", 4, "", 0),
+            ("a", 0, "", 1),
+            ("", 4, "", 0),
+            ("a", 0, "", 0),
+            ("", 4, "ab", 0),
+            ("", 0, "", 0),
+            ("", 4, "", 2),
+            ("", 4, "c", 0),
+            ("", 4, "", 0),
+            ("a", 0, "", 0),
+            ("", 1, "a", 0),
+            ("c", 0, "", 3),
+            ("", 4, "", 0),
+            ("b", 0, "", 0),
+            ("", 4, "", 0),
+        ];
+        for (number, (name, room, bytes, faults)) in calls.into_iter().enumerate() {
+            let mut buf = [0; 4];
+            let result = if name.is_empty() {
+                shelf.take(&mut buf[..room.min(4)])
+            } else {
+                shelf.begin(name).map(|()| 0)
+            };
+            match result {
+                Ok(count) => {
+                    assert_eq!(rt; faults, 0, "call {number}");
+                    assert_eq!(rt; buf[..count.min(4)], *bytes.as_bytes(), "call {number}");
+                }
+                Err(failed) => assert_eq!(rt; failed.count, faults, "call {number}"),
+            }
+        }
+        Ok(())
     }
 }

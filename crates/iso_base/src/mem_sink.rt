@@ -68,6 +68,7 @@ impl MemSink {
 
 impl Sink for MemSink {
     ghost bytes = { λ s. Some s.bytes };
+
     ghost faults = { λ s. s.calls.faults };
 
     fn put(&mut self, buf: &[u8]) -> Result<usize, Failed>
@@ -93,5 +94,35 @@ impl Sink for MemSink {
             Ok(()) => Ok(count),
             Err(_) => unreachable!(),
         }
+    }
+}
+
+#[cfg(test)]
+mod tests {
+    use super::*;
+    use std::test::Fail;
+
+    #[test]
+    fn each_call_takes_bytes_or_fails(rt: HostRuntime) -> Result<(), Fail> {
+        let fail = Vec::from_slice(rt.alloc(), &[1])?;
+        let mut sink = MemSink::new(rt.alloc(), 5, fail, 2)?;
+        // The piece, the bytes that were put after the call, and the count of a failure, or 0.
+        let calls = [
+            ("abc", "ab", 0),
+            ("c", "ab", 1),
+            ("c", "abc", 0),
+            ("", "abc", 0),
+            ("def", "abcde", 0),
+            ("f", "abcde", 2),
+            ("", "abcde", 0),
+        ];
+        for (number, (piece, bytes, faults)) in calls.into_iter().enumerate() {
+            match sink.put(piece.as_bytes()) {
+                Ok(_) => assert_eq!(rt; faults, 0, "call {number}"),
+                Err(failed) => assert_eq!(rt; failed.count, faults, "call {number}"),
+            }
+            assert_eq!(rt; sink.bytes(), bytes.as_bytes(), "call {number}");
+        }
+        Ok(())
     }
 }
