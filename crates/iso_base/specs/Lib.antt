@@ -1,3 +1,6 @@
+pub mod Calls
 pub mod Faults
 pub mod Files
 pub mod Fronts
+pub mod InMemory
+pub mod Places

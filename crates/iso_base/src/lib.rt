@@ -5,8 +5,13 @@
 //! faults, so that whoever reads a contract knows that no call blames the outside without a cause.
 #![tactic(auto)]
 
+mod calls;
+mod mem_shelf;
+mod mem_sink;
 mod outside;
 mod put;
 
+pub use mem_shelf::{MemFile, MemShelf};
+pub use mem_sink::MemSink;
 pub use outside::{Failed, Memory, Shelf, Sink};
 pub use put::put_all;

@@ -19,3 +19,26 @@ pub fn put_all<O: Sink>(out: &mut O, bytes: &[u8]) -> Result<(), Failed>
     }
     Ok(())
 }
+
+#[cfg(test)]
+mod tests {
+    use super::*;
+    use crate::mem_sink::MemSink;
+    use std::test::Fail;
+
+    #[test]
+    fn all_of_a_piece_is_put_or_a_front(rt: HostRuntime) -> Result<(), Fail> {
+        // The call that is to fail, the room, the count of a failure, or 0, and the bytes that were put.
+        for (number, room, faults, bytes) in [(9, 8, 0, "nOFF"), (1, 8, 1, "n"), (9, 2, 1, "nO")] {
+            let fail = Vec::from_slice(rt.alloc(), &[number])?;
+            let mut sink = MemSink::new(rt.alloc(), room, fail, 1)?;
+            let count = match put_all(&mut sink, b"nOFF") {
+                Ok(()) => 0,
+                Err(failed) => failed.count,
+            };
+            assert_eq!(rt; count, faults, "call {number}");
+            assert_eq!(rt; sink.bytes(), bytes.as_bytes(), "call {number}");
+        }
+        Ok(())
+    }
+}
