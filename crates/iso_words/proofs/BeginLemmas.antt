@@ -1,15 +1,15 @@
 -- Words that gave right values so far go on to a right list: each missing key is given a value.
-use Rattle.std.proofs.Common.{◌≡◌, ◌≢◌, ℕ, Bool, true, false, ◌&&◌, List, [], ◌∷◌, ◌++◌, Option, Some, None, refl, sym, ◌∙◌, ap, subst, arith}
+use Rattle.std.proofs.Common.{◌≡◌, ℕ, Bool, true, ◌&&◌, List, [], ◌∷◌, ◌++◌, Option, Some, None, refl, sym, ◌∙◌, ap, subst, arith}
 use Rattle.std.proofs.lemmas.Int.{ints}
-use Rattle.std.specs.Prelude.{ℤ, pos, codes}
+use Rattle.std.specs.Prelude.{pos, codes}
 use Rattle.std.specs.List.{AllPass, cons_option}
 use Rattle.std.specs.Option.{option_copied}
 use Rattle.std.proofs.lemmas.List.{append-nil}
 use Rattle.std.proofs.lemmas.List.Elements.{All-append, All-nil}
 use Rattle.std.proofs.lemmas.List.Sums.{AllPass-from_list_all}
 use Rattle.iso_model.specs.Commands.{value_for, check_command, extract_command, has_key_of, BeginRight}
-use Rattle.iso_words.specs.declared.keys.Name.{Name}
-use Rattle.iso_words.specs.declared.keys.Name.TheVariants.{Check, Extract}
+use Rattle.iso_words.specs.declared.keys.CommandName.{CommandName}
+use Rattle.iso_words.specs.declared.keys.CommandName.TheVariants.{Check, Extract}
 use Rattle.iso_words.specs.declared.given.Given.{Given}
 use Rattle.iso_words.specs.Built.{is_built}
 use Rattle.iso_words.specs.Keys.{name_text, keys_of}
@@ -64,10 +64,16 @@ begin_check : (further : List (List ℕ)) (given : Given) → Gave Check further
 begin_check further given g =
     let table = option_copied given.table in
     let more = fill table (codes "table=a") in
-    let t = filled IsFile table (codes "table") (codes "table=a") (codes "a") (codes "a") (values_of (codes "table") further) refl a_file g.table in
-    (more, (check_command t.0, refl, SayCheck-given (further ++ more) t.0
-      (All-append (λ w. has_key_of (keys_of Check) w ≡ true) further more g.keyed (fill_keyed table (has_key_of (keys_of Check)) (codes "table=a") refl))
-      (subst (λ (vs : List (List ℕ)). Stood IsFile (Some t.0) vs) (sym (values_of-append (codes "table") further more)) t.1)))
+    let t = filled IsFile table (codes "table") (codes "table=a") (codes "a") (codes "a") (values_of (codes "table") further) refl a_file g.table in (
+      more,
+      (
+        check_command t.0,
+        refl,
+        SayCheck-given (further ++ more) t.0
+            (All-append (λ w. has_key_of (keys_of Check) w ≡ true) further more g.keyed (fill_keyed table (has_key_of (keys_of Check)) (codes "table=a") refl))
+            (subst (λ (vs : List (List ℕ)). Stood IsFile (Some t.0) vs) (sym (values_of-append (codes "table") further more)) t.1),
+      ),
+    )
 
 begin_extract : (further : List (List ℕ)) (given : Given) → Gave Extract further given → BeginRight is_built (codes "extract" ∷ further)
 begin_extract further given g =
@@ -80,15 +86,21 @@ begin_extract further given g =
     let more = a ++ (b ++ d) in
     let t = filled IsFile table (codes "table") (codes "table=a") (codes "a") (codes "a") (values_of (codes "table") further) refl a_file g.table in
     let r = filled IsFile grid (codes "grid") (codes "grid=a") (codes "a") (codes "a") (values_of (codes "grid") further) refl a_file g.grid in
-    let i = filled IsIsovalue given.iso (codes "iso") (codes "iso=0") (codes "0") (pos 0) (values_of (codes "iso") further) refl an_isovalue g.iso in
-    (more, (extract_command t.0 r.0 i.0, refl, SayExtract-given (further ++ more) t.0 r.0 i.0
-      (All-append (λ w. p w ≡ true) further more g.keyed (All-append (λ w. p w ≡ true) a (b ++ d) (fill_keyed table p (codes "table=a") refl)
-        (All-append (λ w. p w ≡ true) b d (fill_keyed grid p (codes "grid=a") refl) (fill_keyed given.iso p (codes "iso=0") refl))))
-      (subst (λ (vs : List (List ℕ)). Stood IsFile (Some t.0) vs) (first_of_three (codes "table") further a b d (fill_other grid (codes "table") (codes "grid=a") refl) (fill_other given.iso (codes "table") (codes "iso=0") refl)) t.1)
-      (subst (λ (vs : List (List ℕ)). Stood IsFile (Some r.0) vs) (second_of_three (codes "grid") further a b d (fill_other table (codes "grid") (codes "table=a") refl) (fill_other given.iso (codes "grid") (codes "iso=0") refl)) r.1)
-      (subst (λ (vs : List (List ℕ)). Stood IsIsovalue (Some i.0) vs) (third_of_three (codes "iso") further a b d (fill_other table (codes "iso") (codes "table=a") refl) (fill_other grid (codes "iso") (codes "grid=a") refl)) i.1)))
+    let i = filled IsIsovalue given.iso (codes "iso") (codes "iso=0") (codes "0") (pos 0) (values_of (codes "iso") further) refl an_isovalue g.iso in (
+      more,
+      (
+        extract_command t.0 r.0 i.0,
+        refl,
+        SayExtract-given (further ++ more) t.0 r.0 i.0
+            (All-append (λ w. p w ≡ true) further more g.keyed (All-append (λ w. p w ≡ true) a (b ++ d) (fill_keyed table p (codes "table=a") refl)
+            (All-append (λ w. p w ≡ true) b d (fill_keyed grid p (codes "grid=a") refl) (fill_keyed given.iso p (codes "iso=0") refl))))
+            (subst (λ (vs : List (List ℕ)). Stood IsFile (Some t.0) vs) (first_of_three (codes "table") further a b d (fill_other grid (codes "table") (codes "grid=a") refl) (fill_other given.iso (codes "table") (codes "iso=0") refl)) t.1)
+            (subst (λ (vs : List (List ℕ)). Stood IsFile (Some r.0) vs) (second_of_three (codes "grid") further a b d (fill_other table (codes "grid") (codes "table=a") refl) (fill_other given.iso (codes "grid") (codes "iso=0") refl)) r.1)
+            (subst (λ (vs : List (List ℕ)). Stood IsIsovalue (Some i.0) vs) (third_of_three (codes "iso") further a b d (fill_other table (codes "iso") (codes "table=a") refl) (fill_other grid (codes "iso") (codes "grid=a") refl)) i.1),
+      ),
+    )
 
 -- some right list begins with the name of a command and words that gave right values
-pub BeginRight-given : (name : Name) (further : List (List ℕ)) (given : Given) → Gave name further given → BeginRight is_built (name_text name ∷ further)
+pub BeginRight-given : (name : CommandName) (further : List (List ℕ)) (given : Given) → Gave name further given → BeginRight is_built (name_text name ∷ further)
 BeginRight-given Check further given g = begin_check further given g
 BeginRight-given Extract further given g = begin_extract further given g

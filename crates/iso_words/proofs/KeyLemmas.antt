@@ -1,16 +1,16 @@
 -- What a word gives for a key, and that it has a key of a command.
-use Rattle.std.proofs.Common.{◌≡◌, ℕ, Bool, true, false, cond, ◌&&◌, ◌||◌, List, [], ◌∷◌, Option, Some, None, refl, sym, ◌∙◌, ap, subst}
+use Rattle.std.proofs.Common.{◌≡◌, ℕ, Bool, true, false, cond, ◌&&◌, ◌||◌, List, [], ◌∷◌, Some, None, refl, ◌∙◌, ap}
 use Rattle.std.specs.List.{AllByRecursion, list_any, before_first, after_first}
-use Rattle.std.specs.Prelude.{nat_eq, codes}
-use Rattle.std.proofs.lemmas.Bool.{and_parts, and_left, false≢true}
+use Rattle.std.specs.Prelude.{nat_eq}
+use Rattle.std.proofs.lemmas.Bool.{and_parts}
 use Rattle.std.proofs.lemmas.Slice.Eq.{bytes_eq-Decides}
 use Rattle.iso_model.specs.Orders.{has, same_list}
 use Rattle.iso_model.specs.Commands.{value_for, has_key_of}
 use Rattle.iso_words.specs.declared.keys.Key.{Key}
 use Rattle.iso_words.specs.declared.keys.Key.TheVariants.{Table, Grid, Iso}
-use Rattle.iso_words.specs.declared.keys.Name.{Name}
-use Rattle.iso_words.specs.declared.keys.Name.TheVariants.{Check, Extract}
-use Rattle.iso_words.specs.Keys.{key_text, name_text, keys_of, has_key}
+use Rattle.iso_words.specs.declared.keys.CommandName.{CommandName}
+use Rattle.iso_words.specs.declared.keys.CommandName.TheVariants.{Check, Extract}
+use Rattle.iso_words.specs.Keys.{key_text, keys_of, has_key}
 
 some_test : {A : Type 0} (t : Bool) (x v : A) → cond t (Some x) None ≡ Some v → t ≡ true
 some_test true x v e = refl
@@ -40,10 +40,10 @@ has_key_of-some keys key word v e =
     let p = value_for-some key word v e in
     ap (λ (b : List ℕ). has word 61 && list_any (same_list b) keys) p.1 ∙ ap (λ (t : Bool). t && list_any (same_list key) keys) p.0
 
-pub has_key_of-key : (name : Name) (key : Key) (word v : List ℕ) → value_for (key_text key) word ≡ Some v → has_key_of (keys_of name) word ≡ has_key name key
+pub has_key_of-key : (name : CommandName) (key : Key) (word v : List ℕ) → value_for (key_text key) word ≡ Some v → has_key_of (keys_of name) word ≡ has_key name key
 has_key_of-key name key word v e = has_key_of-some (keys_of name) (key_text key) word v e ∙ known name key
   where
-    known : (n : Name) (k : Key) → list_any (same_list (key_text k)) (keys_of n) ≡ has_key n k
+    known : (n : CommandName) (k : Key) → list_any (same_list (key_text k)) (keys_of n) ≡ has_key n k
     known Check Table = refl
     known Check Grid = refl
     known Check Iso = refl
@@ -63,6 +63,6 @@ has_key_of-none (key ∷ keys) word none =
     let b = before_first (nat_eq 61) word in
     and_or (has word 61) (same_list b key) (list_any (same_list b) keys) (none_test _ _ none.0) (has_key_of-none keys word none.1)
 
-pub has_key_of-no_key : (name : Name) (word : List ℕ) → ((key : Key) → value_for (key_text key) word ≡ None) → has_key_of (keys_of name) word ≡ false
+pub has_key_of-no_key : (name : CommandName) (word : List ℕ) → ((key : Key) → value_for (key_text key) word ≡ None) → has_key_of (keys_of name) word ≡ false
 has_key_of-no_key Check word none = has_key_of-none (keys_of Check) word (none Table, tt)
 has_key_of-no_key Extract word none = has_key_of-none (keys_of Extract) word (none Table, (none Grid, (none Iso, tt)))

@@ -1,20 +1,18 @@
 -- What a right list of words has, by the name of its command; and a list that gave right values so far goes on to a right one.
-use Rattle.std.proofs.Common.{◌≡◌, ◌≢◌, ℕ, Bool, true, false, List, [], ◌∷◌, ◌++◌, Option, Some, None, refl, sym, ◌∙◌, ap, subst, Bor, w64, of_z, to_z, to_z-of_z}
-use Rattle.std.specs.Prelude.{ℤ, pos, codes, IsTrue}
+use Rattle.std.proofs.Common.{◌≡◌, ℕ, Bool, true, false, List, [], ◌∷◌, ◌++◌, Option, Some, refl, sym, ◌∙◌, ap, subst, Bor, w64, of_z, to_z, to_z-of_z}
+use Rattle.std.specs.Prelude.{ℤ, codes, IsTrue}
 use Rattle.std.specs.List.{AllPass, list_all}
 use Rattle.std.specs.Option.{option_copied}
 use Rattle.std.proofs.lemmas.Bool.{false≢true, and_parts}
-use Rattle.std.proofs.lemmas.List.{append-nil}
-use Rattle.std.proofs.lemmas.List.Elements.{All-append}
-use Rattle.std.proofs.lemmas.List.Sums.{AllPass-from_list_all, list_all-from_AllPass}
+use Rattle.std.proofs.lemmas.List.Sums.{list_all-from_AllPass}
 use Rattle.iso_model.specs.Commands.{Command as Asked, generate_command, check_command, extract_command, demo_command, has_key_of, Say, SayCheck, SayExtract, AreRight, BeginRight}
 use Rattle.iso_words.specs.declared.keys.Key.{Key}
 use Rattle.iso_words.specs.declared.keys.Key.TheVariants.{Table, Grid, Iso}
-use Rattle.iso_words.specs.declared.keys.Name.{Name}
-use Rattle.iso_words.specs.declared.keys.Name.TheVariants.{Check, Extract}
+use Rattle.iso_words.specs.declared.keys.CommandName.{CommandName}
+use Rattle.iso_words.specs.declared.keys.CommandName.TheVariants.{Check, Extract}
 use Rattle.iso_words.specs.declared.given.Given.{Given}
 use Rattle.iso_words.specs.Built.{is_built}
-use Rattle.iso_words.specs.Keys.{key_text, name_text, keys_of, has_key}
+use Rattle.iso_words.specs.Keys.{name_text, keys_of, has_key}
 use Rattle.iso_words.specs.Given.{IsFile, IsIsovalue, values_of, Stood, Gave}
 use Rattle.iso_words.proofs.NumberLemmas.{isovalue_fits}
 
@@ -25,25 +23,27 @@ StandsOnce Grid further = (name : List ℕ) × Stood IsFile (Some name) (values_
 StandsOnce Iso further = (n : ℤ) × Stood IsIsovalue (Some n) (values_of (codes "iso") further)
 
 -- what stands behind the name of a command in a right list
-pub record HasKeys (name : Name) (further : List (List ℕ)) : Type 0 where
+pub record HasKeys (name : CommandName) (further : List (List ℕ)) : Type 0 where
   pub keyed : AllPass (has_key_of (keys_of name)) further
   pub once : (key : Key) → has_key name key ≡ true → StandsOnce key further
 
 head_same : (x y : List ℕ) (xs ys : List (List ℕ)) → x ∷ xs ≡ y ∷ ys → x ≡ y
 head_same x y xs ys e = cc
 
-pub HasKeys-from_right : (name : Name) (further : List (List ℕ)) → AreRight is_built (name_text name ∷ further) → HasKeys name further
+pub HasKeys-from_right : (name : CommandName) (further : List (List ℕ)) → AreRight is_built (name_text name ∷ further) → HasKeys name further
 HasKeys-from_right name further right = go name right.0 right.1 right.2
   where
     checked : (table : List ℕ) → SayCheck (codes "check" ∷ further) table → (key : Key) → has_key Check key ≡ true → StandsOnce key further
     checked table s Table e = (table, (table, s.table_is.0, (refl, s.table_is.1)))
     checked table s Grid e = absurd (false≢true e)
     checked table s Iso e = absurd (false≢true e)
+
     extracted : (table grid : List ℕ) (iso : ℤ) → SayExtract (codes "extract" ∷ further) table grid iso → (key : Key) → has_key Extract key ≡ true → StandsOnce key further
     extracted table grid iso s Table e = (table, (table, s.table_is.0, (refl, s.table_is.1)))
     extracted table grid iso s Grid e = (grid, (grid, s.grid_is.0, (refl, s.grid_is.1)))
     extracted table grid iso s Iso e = (iso, (s.iso_is.0, s.iso_is.1, (s.iso_is.2, s.iso_from, s.iso_to)))
-    go : (n : Name) (c : Asked) → IsTrue (is_built c) → Say (name_text n ∷ further) c → HasKeys n further
+
+    go : (n : CommandName) (c : Asked) → IsTrue (is_built c) → Say (name_text n ∷ further) c → HasKeys n further
     go Check (check_command table) b s = record { keyed = s.are_for.keyed; once = checked table s }
     go Check (extract_command table grid iso) b s = let e = head_same _ _ _ _ s.are_for.named.1 in cc
     go Check (generate_command kind d) b s = absurd (false≢true b)
@@ -74,13 +74,13 @@ SayExtract-given further table grid iso keyed t g i = record {
 }
 
 -- what `command` gives
-pub SayCheck-from_gave : (name : Name) (further : List (List ℕ)) (given : Given) (table : Bor (List ℕ)) → name ≡ Check → given.table ≡ Some table
+pub SayCheck-from_gave : (name : CommandName) (further : List (List ℕ)) (given : Given) (table : Bor (List ℕ)) → name ≡ Check → given.table ≡ Some table
     → Gave name further given → SayCheck (name_text name ∷ further) table.now
 SayCheck-from_gave Check further given table n t g =
     SayCheck-given further table.now g.keyed (subst (λ (o : Option (Bor (List ℕ))). Stood IsFile (option_copied o) (values_of (codes "table") further)) t g.table)
 SayCheck-from_gave Extract further given table n t g = cc
 
-pub SayExtract-from_gave : (name : Name) (further : List (List ℕ)) (given : Given) (table grid : Bor (List ℕ)) (iso : ℤ) → name ≡ Extract
+pub SayExtract-from_gave : (name : CommandName) (further : List (List ℕ)) (given : Given) (table grid : Bor (List ℕ)) (iso : ℤ) → name ≡ Extract
     → given.table ≡ Some table → given.grid ≡ Some grid → given.iso ≡ Some iso
     → Gave name further given → SayExtract (name_text name ∷ further) table.now grid.now (to_z w64 (of_z w64 iso))
 SayExtract-from_gave Check further given table grid iso n t r i g = cc
@@ -88,9 +88,9 @@ SayExtract-from_gave Extract further given table grid iso n t r i g =
     let iso' = subst (λ (o : Option ℤ). Stood IsIsovalue o (values_of (codes "iso") further)) i g.iso in
     let same : iso ≡ to_z w64 (of_z w64 iso) = sym (to_z-of_z (isovalue_fits iso iso'.2.1 iso'.2.2)) in
     subst (λ (z : ℤ). SayExtract (codes "extract" ∷ further) table.now grid.now z) same (SayExtract-given further table.now grid.now iso g.keyed
-      (subst (λ (o : Option (Bor (List ℕ))). Stood IsFile (option_copied o) (values_of (codes "table") further)) t g.table)
-      (subst (λ (o : Option (Bor (List ℕ))). Stood IsFile (option_copied o) (values_of (codes "grid") further)) r g.grid)
-      iso')
+    (subst (λ (o : Option (Bor (List ℕ))). Stood IsFile (option_copied o) (values_of (codes "table") further)) t g.table)
+    (subst (λ (o : Option (Bor (List ℕ))). Stood IsFile (option_copied o) (values_of (codes "grid") further)) r g.grid)
+    iso')
 
 -- ---- words that begin no right list
 
@@ -99,13 +99,13 @@ inside p [] word more h = (and_parts (p word) _ h).0
 inside p (x ∷ xs) word more h = inside p xs word more (and_parts (p x) _ h).1
 
 -- no right list goes on with a word that has no key of the command
-pub not_begin-unkeyed : (name : Name) (further : List (List ℕ)) (word : List ℕ) → has_key_of (keys_of name) word ≡ false
+pub not_begin-unkeyed : (name : CommandName) (further : List (List ℕ)) (word : List ℕ) → has_key_of (keys_of name) word ≡ false
     → BeginRight is_built (name_text name ∷ (further ++ word ∷ [])) → ⊥
 not_begin-unkeyed name further word e begun =
     let all = list_all-from_AllPass _ _ (HasKeys-from_right name ((further ++ word ∷ []) ++ begun.0) begun.1).keyed in
     false≢true (sym e ∙ inside (has_key_of (keys_of name)) further word begun.0 all)
 
 -- nor with one whose key never stands once then
-pub not_begin-never : (name : Name) (key : Key) (further : List (List ℕ)) → has_key name key ≡ true
+pub not_begin-never : (name : CommandName) (key : Key) (further : List (List ℕ)) → has_key name key ≡ true
     → ((more : List (List ℕ)) → StandsOnce key (further ++ more) → ⊥) → BeginRight is_built (name_text name ∷ further) → ⊥
 not_begin-never name key further e never begun = never begun.0 ((HasKeys-from_right name (further ++ begun.0) begun.1).once key e)

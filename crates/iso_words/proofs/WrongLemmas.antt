@@ -1,18 +1,18 @@
 -- The first wrong word.
-use Rattle.std.proofs.Common.{◌≡◌, ◌≢◌, ℕ, ◌+◌, ◌-◌, ◌<◌, ◌≤◌, Bool, true, false, cond, List, [], ◌∷◌, ◌++◌, length, take, drop, get_or, suc, take_all, ◌⊎◌, Some, None, refl, sym, ◌∙◌, ap, subst, arith, inl, inr}
-use Rattle.std.specs.Prelude.{ℤ, codes, IsTrue, map}
+use Rattle.std.proofs.Common.{◌≡◌, ◌≢◌, ℕ, ◌+◌, ◌-◌, ◌<◌, ◌≤◌, Bool, true, false, cond, List, [], ◌∷◌, ◌++◌, length, take, drop, get_or, suc, take_all, ◌⊎◌, None, refl, sym, ◌∙◌, ap, subst, arith, inl, inr}
+use Rattle.std.specs.Prelude.{ℤ, codes, IsTrue}
 use Rattle.std.specs.Option.{is_some}
 use Rattle.std.specs.String.{string_bytes}
 use Rattle.std.specs.declared.string.String.{String}
-use Rattle.std.proofs.lemmas.Bool.{false≢true}
-use Rattle.std.proofs.lemmas.List.{take_more, take-append-drop, length-map, get_or-map}
+use Rattle.std.proofs.lemmas.Bool.{false≢true, cases_order}
+use Rattle.std.proofs.lemmas.List.{take_more, take-append-drop, take-take, append_assoc, length-map, get_or-map}
 use Rattle.std.proofs.lemmas.List.Elements.{All-nil}
 use Rattle.iso_model.specs.Commands.{Command as Asked, generate_command, check_command, extract_command, demo_command, Gives, GivesNumber, Say, AreRight, BeginRight, IsWrongWord}
 use Rattle.iso_model.specs.Commands.{has_key_of}
 use Rattle.iso_words.specs.declared.Command.{Command}
 use Rattle.iso_words.specs.declared.Command.TheVariants.{Check as check, Extract as extract}
-use Rattle.iso_words.specs.declared.keys.Name.{Name}
-use Rattle.iso_words.specs.declared.keys.Name.TheVariants.{Check, Extract}
+use Rattle.iso_words.specs.declared.keys.CommandName.{CommandName}
+use Rattle.iso_words.specs.declared.keys.CommandName.TheVariants.{Check, Extract}
 use Rattle.iso_words.specs.declared.given.Given.{Given}
 use Rattle.iso_words.specs.Built.{is_built, texts, asked}
 use Rattle.iso_words.specs.Keys.{name_text, keys_of}
@@ -58,7 +58,7 @@ begin_nothing =
     let begun = BeginRight-given Check [] nothing (record { keyed = All-nil (λ w. has_key_of (keys_of Check) w ≡ true); table = refl; grid = refl; iso = refl }) in
     (codes "check" ∷ begun.0, begun.1)
 
-named : (word : List ℕ) (rest : List (List ℕ)) (c : Asked) → IsTrue (is_built c) → Say (word ∷ rest) c → (name : Name) × (word ≡ name_text name)
+named : (word : List ℕ) (rest : List (List ℕ)) (c : Asked) → IsTrue (is_built c) → Say (word ∷ rest) c → (name : CommandName) × (word ≡ name_text name)
 named word rest (check_command table) b s = (Check, head_same _ _ _ _ s.are_for.named.1)
 named word rest (extract_command table grid iso) b s = (Extract, head_same _ _ _ _ s.are_for.named.1)
 named word rest (generate_command kind d) b s = absurd (false≢true b)
@@ -74,7 +74,7 @@ wrong_none : IsWrongWord is_built [] 1
 wrong_none = record { counted = omega arith; before = begin_nothing; wrong = inr (refl, λ r. none_right r.0 r.1 r.2) }
 
 -- where the first word is no command
-pub wrong_first : (word : List ℕ) (rest : List (List ℕ)) → ((name : Name) → word ≢ name_text name) → IsWrongWord is_built (word ∷ rest) 1
+pub wrong_first : (word : List ℕ) (rest : List (List ℕ)) → ((name : CommandName) → word ≢ name_text name) → IsWrongWord is_built (word ∷ rest) 1
 wrong_first word rest none = record {
   counted = omega arith;
   before = begin_nothing;
@@ -82,7 +82,7 @@ wrong_first word rest none = record {
 }
 
 -- where no right list goes on with a further word
-pub wrong_further : (name : Name) (further : List (List ℕ)) (i : ℕ) (given : Given) → i < length further → Gave name (take i further) given
+pub wrong_further : (name : CommandName) (further : List (List ℕ)) (i : ℕ) (given : Given) → i < length further → Gave name (take i further) given
     → (BeginRight is_built (name_text name ∷ take (i + 1) further) → ⊥) → IsWrongWord is_built (name_text name ∷ further) (i + 2)
 wrong_further name further i given in' gave never =
     let words = name_text name ∷ further in
@@ -94,7 +94,7 @@ wrong_further name further i given in' gave never =
       wrong = inl (omega arith, λ b. never (subst (λ (k : ℕ). BeginRight is_built (take k words)) (sym f) b));
     }
 
-wrong_end : (name : Name) (further : List (List ℕ)) (given : Given) → Gave name further given
+wrong_end : (name : CommandName) (further : List (List ℕ)) (given : Given) → Gave name further given
     → (AreRight is_built (name_text name ∷ further) → ⊥) → IsWrongWord is_built (name_text name ∷ further) (length further + 2)
 wrong_end name further given gave never =
     let words = name_text name ∷ further in
@@ -113,9 +113,35 @@ never_said words n w c b s = go w.wrong
     go (inl early) = early.1 (drop n words, (c, b, subst (λ (ws : List (List ℕ)). Say ws c) (sym (take-append-drop n words)) s))
     go (inr late) = late.1 (c, b, s)
 
+begin_shorter : (words : List (List ℕ)) (m n : ℕ) → m ≤ n → BeginRight is_built (take n words) → BeginRight is_built (take m words)
+begin_shorter words m n shorter b =
+    let front = take m words in
+    let rest = drop m (take n words) in
+    let e : take m (take n words) ≡ front = take-take m n words shorter in
+    let all : front ++ rest ≡ take n words = ap (λ (ws : List (List ℕ)). ws ++ rest) (sym e) ∙ take-append-drop m (take n words) in
+    (rest ++ b.0, subst (λ (ws : List (List ℕ)). AreRight is_built ws) (ap (λ (ws : List (List ℕ)). ws ++ b.0) (sym all) ∙ append_assoc front rest b.0) b.1)
+
+not_later : (words : List (List ℕ)) (m n : ℕ) → IsWrongWord is_built words m → IsWrongWord is_built words n → m < n → ⊥
+not_later words m n w v less = go w.wrong v.wrong
+  where
+    go : ((m ≤ length words) × ¬ BeginRight is_built (take m words)) ⊎ ((m ≡ length words + 1) × ¬ AreRight is_built words)
+        → ((n ≤ length words) × ¬ BeginRight is_built (take n words)) ⊎ ((n ≡ length words + 1) × ¬ AreRight is_built words) → ⊥
+    go (inl early) _ = early.1 (begin_shorter words m (n - 1) (omega arith) v.before)
+    go (inr late) (inl early) = absurd (omega (arith, late.0, early.0))
+    go (inr late) (inr end) = absurd (omega (arith, late.0, end.0))
+
+-- there is one first wrong word
+pub IsWrongWord-one : (words : List (List ℕ)) (m n : ℕ) → IsWrongWord is_built words m → IsWrongWord is_built words n → m ≡ n
+IsWrongWord-one words m n w v = go (cases_order m n)
+  where
+    go : (m ≡ n) ⊎ ((m < n) ⊎ (n < m)) → m ≡ n
+    go (inl same) = same
+    go (inr (inl less)) = absurd (not_later words m n w v less)
+    go (inr (inr more)) = absurd (not_later words n m v w more)
+
 -- ---- the words as bytes
 
-pub texts-first : {A : Type 0} (words further : List (String A)) (first : String A) (name : Name) → words ≡ first ∷ further
+pub texts-first : {A : Type 0} (words further : List (String A)) (first : String A) (name : CommandName) → words ≡ first ∷ further
     → string_bytes first ≡ name_text name → texts words ≡ name_text name ∷ texts further
 texts-first words further first name e f = ap texts e ∙ ap (λ (t : List ℕ). t ∷ texts further) f
 
@@ -138,7 +164,7 @@ wrong_empty [] e = wrong_none
 wrong_empty (word ∷ words) e = absurd (omega arith)
 
 -- where a key is missing
-pub wrong_early : {A : Type 0} (name : Name) (further : List (String A)) (given : Given) → Gave name (texts further) given
+pub wrong_early : {A : Type 0} (name : CommandName) (further : List (String A)) (given : Given) → Gave name (texts further) given
     → (AreRight is_built (name_text name ∷ texts further) → ⊥) → IsWrongWord is_built (name_text name ∷ texts further) (length further + 2)
 wrong_early name further given gave never =
     subst (λ (n : ℕ). IsWrongWord is_built (name_text name ∷ texts further) (n + 2)) (length-texts further) (wrong_end name (texts further) given gave never)

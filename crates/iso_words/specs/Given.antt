@@ -1,10 +1,10 @@
 -- What the words of a command gave so far.
-use Rattle.std.specs.Prelude.{◌≡◌, ◌≢◌, ℕ, ℤ, pos, neg_ℤ, ◌≤ℤ◌, Bool, List, [], ◌∷◌, filter_map, Option, Some, None, codes, ◌+◌, if◌then◌else◌, is_some}
+use Rattle.std.specs.Prelude.{◌≡◌, ◌≢◌, ℕ, ℤ, pos, neg_ℤ, ◌≤ℤ◌, List, [], ◌∷◌, filter_map, Option, Some, None, codes, ◌+◌, if◌then◌else◌, is_some}
 use Rattle.std.specs.List.{AllPass}
 use Rattle.std.specs.Option.{option_copied}
 use Rattle.iso_model.specs.Commands.{value_for, has_key_of, IsNumber, iso_limit}
 use Rattle.iso_words.specs.Keys.{keys_of}
-use Rattle.iso_words.specs.declared.keys.Name.{Name}
+use Rattle.iso_words.specs.declared.keys.CommandName.{CommandName}
 use Rattle.iso_words.specs.declared.given.Given.{Given}
 
 -- a file name has at least one character
@@ -25,7 +25,7 @@ Stood P None values = values ≡ []
 Stood P (Some v) values = (text : List ℕ) × (values ≡ text ∷ []) × P text v
 
 -- the words behind the command's name have keys of the command, none twice, and give these values
-pub record Gave (name : Name) (further : List (List ℕ)) (given : Given) : Type 0 where
+pub record Gave (name : CommandName) (further : List (List ℕ)) (given : Given) : Type 0 where
   pub keyed : AllPass (has_key_of (keys_of name)) further
   pub table : Stood IsFile (option_copied given.table) (values_of (codes "table") further)
   pub grid : Stood IsFile (option_copied given.grid) (values_of (codes "grid") further)

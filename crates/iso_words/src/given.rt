@@ -4,7 +4,7 @@ ghost use Rattle.std.specs.Prelude.{◌≡◌, ◌+◌, ℕ, ℤ, List, [], ◌�
 ghost use Rattle.std.specs.Bool.{OnTrue, OnFalse};
 
 use crate::Command;
-use crate::keys::{Key, Name, key_and_value, takes};
+use crate::keys::{CommandName, Key};
 use crate::values::{file_name, isovalue};
 
 /// The value of each key that stood.
@@ -23,22 +23,27 @@ impl<'a> Given<'a> {
 
     // Nothing yet.
     pub(crate) fn nothing() -> Given<'a>
-        ensures gave { (name : Name) → Gave name [] result }
+        ensures gave { (name : CommandName) → Gave name [] result }
         ensures count { given_count result ≡ 0 }
     {
-        Given { table: None, grid: None, iso: None }
+        Given {
+            table: None,
+            grid: None,
+            iso: None,
+        }
     }
 
     // Takes the value of one more word of a command, or changes nothing where no right list goes on with the word.
-    pub(crate) fn take(&mut self, name: Name, word: &'a str) -> bool
+    pub(crate) fn take(&mut self, name: CommandName, word: &'a str) -> bool
         ensures taken { (further : List (List ℕ)) → Gave name further self.old → OnTrue result (Gave name (further ++ word.entry.now ∷ []) self.new) }
         ensures refused { (further : List (List ℕ)) → Gave name further self.old → OnFalse result (¬ BeginRight is_built (name_text name ∷ (further ++ word.entry.now ∷ []))) }
         ensures count { OnTrue result (given_count self.new ≡ given_count self.old + 1) }
+        ensures same { OnFalse result (self.new ≡ self.old) }
     {
-        let Some((key, value)) = key_and_value(word) else {
+        let Some((key, value)) = Key::with_value(word) else {
             return false;
         };
-        if !takes(name, key) {
+        if !name.has(key) {
             return false;
         }
         match key {
@@ -49,22 +54,27 @@ impl<'a> Given<'a> {
     }
 
     // The command, if no key of it is missing.
-    pub(crate) fn command(self, name: Name) -> Option<Command<'a>>
+    pub(crate) fn command(self, name: CommandName) -> Option<Command<'a>>
         ensures said { (further : List (List ℕ)) → Gave name further self.entry → IfSome result (λ command. Say (name_text name ∷ further) (asked command)) }
         ensures early { (further : List (List ℕ)) → Gave name further self.entry → IfNone result (¬ AreRight is_built (name_text name ∷ further)) }
     {
         match (name, self.table, self.grid, self.iso) {
-            (Name::Check, Some(table), _, _) => Some(Command::Check { table }),
-            (Name::Extract, Some(table), Some(grid), Some(iso)) => Some(Command::Extract { table, grid, iso }),
+            (CommandName::Check, Some(table), _, _) => Some(Command::Check { table }),
+            (CommandName::Extract, Some(table), Some(grid), Some(iso)) => Some(Command::Extract {
+                table,
+                grid,
+                iso,
+            }),
             _ => None,
         }
     }
 }
 
-// Puts a value where there was none.
+// Puts a value where there was none, or changes nothing.
 fn put<T: Copy>(place: &mut Option<T>, value: Option<T>) -> bool
     ensures first { result ≡ (not (is_some place.old) && is_some value) }
     ensures value { OnTrue result (place.new ≡ value) }
+    ensures same { OnFalse result (place.new ≡ place.old) }
 {
     if place.is_some() || value.is_none() {
         return false;

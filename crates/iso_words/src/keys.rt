@@ -1,17 +1,41 @@
-//! The names of the commands and of their keys.
+//! The commands and their keys, by name.
 
-ghost use Rattle.std.specs.Prelude.{◌≡◌, ◌≢◌, Some, None, IsTrue, MatchOption};
-ghost use Rattle.iso_model.specs.Commands.{value_for};
-ghost use Rattle.iso_words.specs.Keys.{key_text, name_text, has_key};
-
-/// The name of a command.
+/// A command, by its name.
 #[derive(Clone, Copy)]
-pub(crate) enum Name {
+pub(crate) enum CommandName {
     Check,
     Extract,
 }
 
-/// The name of a value that a command takes.
+impl CommandName {
+    ghost use Rattle.std.specs.Prelude.{◌≡◌, ◌≢◌, MatchOption};
+    ghost use Rattle.iso_words.specs.Keys.{name_text, has_key};
+
+    // The command that a word names.
+    pub(crate) fn named(word: &str) -> Option<CommandName>
+        ensures { MatchOption result ((name : CommandName) → word.now ≢ name_text name) (λ name. word.now ≡ name_text name) }
+    {
+        if word == "check" {
+            Some(CommandName::Check)
+        } else if word == "extract" {
+            Some(CommandName::Extract)
+        } else {
+            None
+        }
+    }
+
+    // Whether the command has the key.
+    pub(crate) fn has(self, key: Key) -> bool
+        ensures { result ≡ has_key self key }
+    {
+        match self {
+            CommandName::Check => matches!(key, Key::Table),
+            CommandName::Extract => true,
+        }
+    }
+}
+
+/// A key, by its name.
 #[derive(Clone, Copy)]
 pub(crate) enum Key {
     Table,
@@ -19,53 +43,36 @@ pub(crate) enum Key {
     Iso,
 }
 
-// The command that a word names.
-pub(crate) fn name_of(word: &str) -> Option<Name>
-    ensures { MatchOption result ((name : Name) → word.now ≢ name_text name) (λ name. word.now ≡ name_text name) }
-{
-    if word == "check" {
-        Some(Name::Check)
-    } else if word == "extract" {
-        Some(Name::Extract)
-    } else {
-        None
+impl Key {
+    ghost use Rattle.std.specs.Prelude.{◌≡◌, ◌≢◌, Some, None, MatchOption};
+    ghost use Rattle.iso_model.specs.Commands.{value_for};
+    ghost use Rattle.iso_words.specs.Keys.{key_text};
+
+    // The key that a text names.
+    fn named(text: &str) -> Option<Key>
+        ensures { MatchOption result ((key : Key) → text.now ≢ key_text key) (λ key. text.now ≡ key_text key) }
+    {
+        if text == "table" {
+            Some(Key::Table)
+        } else if text == "grid" {
+            Some(Key::Grid)
+        } else if text == "iso" {
+            Some(Key::Iso)
+        } else {
+            None
+        }
     }
-}
 
-// The key that a text names.
-fn key_of(text: &str) -> Option<Key>
-    ensures { MatchOption result ((key : Key) → text.now ≢ key_text key) (λ key. text.now ≡ key_text key) }
-{
-    if text == "table" {
-        Some(Key::Table)
-    } else if text == "grid" {
-        Some(Key::Grid)
-    } else if text == "iso" {
-        Some(Key::Iso)
-    } else {
-        None
-    }
-}
-
-// The key and the value of a word.
-pub(crate) fn key_and_value(word: &str) -> Option<(Key, &str)>
-    ensures { MatchOption result ((key : Key) → value_for (key_text key) word.now ≡ None) (λ pair. value_for (key_text pair.0) word.now ≡ Some pair.1.now) }
-{
-    let Some((text, value)) = word.split_once('=') else {
-        return None;
-    };
-    let Some(key) = key_of(text) else {
-        return None;
-    };
-    Some((key, value))
-}
-
-// Whether a command takes a value of this name.
-pub(crate) fn takes(name: Name, key: Key) -> bool
-    ensures { result ≡ has_key name key }
-{
-    match name {
-        Name::Check => matches!(key, Key::Table),
-        Name::Extract => true,
+    // The key of a word, and its value.
+    pub(crate) fn with_value(word: &str) -> Option<(Key, &str)>
+        ensures { MatchOption result ((key : Key) → value_for (key_text key) word.now ≡ None) (λ pair. value_for (key_text pair.0) word.now ≡ Some pair.1.now) }
+    {
+        let Some((text, value)) = word.split_once('=') else {
+            return None;
+        };
+        let Some(key) = Key::named(text) else {
+            return None;
+        };
+        Some((key, value))
     }
 }

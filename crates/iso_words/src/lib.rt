@@ -12,7 +12,7 @@
 //! and not `-0`; it lies from -1099511627776 to 1099511627776. Letter case matters everywhere.
 #![tactic(auto)]
 
-ghost use Rattle.std.specs.Prelude.{◌≡◌, IsTrue, IfOk, IfErr, IsOkAnd};
+ghost use Rattle.std.specs.Prelude.{◌≡◌, ℕ, IsTrue, IfOk, IfErr, IsOkAnd, IsErrAnd};
 ghost use Rattle.iso_model.specs.Commands.{Command as Asked, Say, IsWrongWord};
 ghost use Rattle.iso_words.specs.Built.{is_built, texts, asked};
 
@@ -21,15 +21,21 @@ mod keys;
 mod values;
 
 use given::Given;
-use keys::name_of;
+use keys::CommandName;
 
 /// What the words ask for.
 #[derive(Clone, Copy, Debug, PartialEq, Eq)]
 pub enum Command<'a> {
     /// Check the table of a file.
-    Check { table: &'a str },
+    Check {
+        table: &'a str,
+    },
     /// Extract the mesh of a grid, by a table, at an isovalue.
-    Extract { table: &'a str, grid: &'a str, iso: i64 },
+    Extract {
+        table: &'a str,
+        grid: &'a str,
+        iso: i64,
+    },
 }
 
 /// The first wrong word, counted from 1: no right list of words begins with the words up to it. Where the list
@@ -41,12 +47,13 @@ pub struct WrongWord(pub u32);
 pub fn parse(words: &[String]) -> Result<Command<'_>, WrongWord>
     ensures said { IfOk result (λ command. Say (texts words.now) (asked command)) }
     ensures exact { (command : Asked) → IsTrue (is_built command) → Say (texts words.now) command → IsOkAnd result (λ given. asked given ≡ command) }
+    ensures wrong { (n : ℕ) → IsWrongWord is_built (texts words.now) n → IsErrAnd result (λ wrong. wrong.0 ≡ n) }
     ensures place { IfErr result (λ wrong. IsWrongWord is_built (texts words.now) wrong.0) }
 {
     let Some((first, further)) = words.split_first() else {
         return Err(WrongWord(1));
     };
-    let Some(name) = name_of(first.as_str()) else {
+    let Some(name) = CommandName::named(first.as_str()) else {
         return Err(WrongWord(1));
     };
     let mut given = Given::nothing();

@@ -39,9 +39,18 @@ fn right_words_say_their_command(rt: HostRuntime) -> Result<(), Fail> {
         ("extract table=a grid=b iso=0", extract("a", "b", 0)),
         ("extract table=a grid=b iso=-5", extract("a", "b", -5)),
         ("extract table=a grid=b iso=-10", extract("a", "b", -10)),
-        ("extract table=a grid=b iso=1099511627776", extract("a", "b", 1099511627776)),
-        ("extract table=a grid=b iso=-1099511627776", extract("a", "b", -1099511627776)),
-        ("extract table=iso=1 grid=table=a iso=2", extract("iso=1", "table=a", 2)),
+        (
+            "extract table=a grid=b iso=1099511627776",
+            extract("a", "b", 1099511627776),
+        ),
+        (
+            "extract table=a grid=b iso=-1099511627776",
+            extract("a", "b", -1099511627776),
+        ),
+        (
+            "extract table=iso=1 grid=table=a iso=2",
+            extract("iso=1", "table=a", 2),
+        ),
     ];
     for (line, command) in rows {
         let words = words_of(rt.alloc(), line)?;
@@ -106,7 +115,10 @@ fn wrong_words_are_counted(rt: HostRuntime) -> Result<(), Fail> {
         ("extract table=a grid=b iso=1099511627777", 4),
         ("extract table=a grid=b iso=-1099511627777", 4),
         ("extract table=a grid=b iso=9223372036854775808", 4),
-        ("extract table=a grid=b iso=123456789012345678901234567890123456789012345678901234567890", 4),
+        (
+            "extract table=a grid=b iso=123456789012345678901234567890123456789012345678901234567890",
+            4,
+        ),
         ("extract iso=05 x x x x x x x", 2),
     ];
     for (line, place) in rows {

@@ -26,7 +26,11 @@ pub(crate) fn isovalue(value: &str) -> Option<i64>
     let Ok(n) = value.parse::<i64>() else {
         return None;
     };
-    if -ISO_LIMIT <= n && n <= ISO_LIMIT { Some(n) } else { None }
+    if (-ISO_LIMIT..=ISO_LIMIT).contains(&n) {
+        Some(n)
+    } else {
+        None
+    }
 }
 
 // Whether a text is an optional `-` and digits, without a leading zero but `0` itself, and not `-0`.

@@ -6,5 +6,5 @@ use Rattle.iso_words.proofs.parse.Given as goal
 abbrev pub invariant-loop-i : goal.invariant-loop-i
 invariant-loop-i l = record {
   gave : Gave l.name (take l.i (texts l.further)) l.given;
-  count : given_count l.given ≡ l.i
+  count : given_count l.given ≡ l.i;
 }
