@@ -1,0 +1,7 @@
+pub mod KeyLemmas
+pub mod StoodLemmas
+pub mod RightLemmas
+pub mod NumberLemmas
+pub mod TakeLemmas
+pub mod BeginLemmas
+pub mod WrongLemmas

@@ -1,0 +1,58 @@
+-- The values of a key in a list of words, as one more word comes.
+use Rattle.std.proofs.Common.{◌≡◌, ℕ, true, false, not, ◌&&◌, List, [], ◌∷◌, ◌++◌, Option, Some, None, sym, ◌∙◌, ap, subst}
+use Rattle.std.specs.Option.{is_some, MatchOption}
+use Rattle.std.specs.List.{cons_option}
+use Rattle.std.proofs.lemmas.Bool.{false≢true, true≢false}
+use Rattle.std.proofs.lemmas.List.{append-nil}
+use Rattle.std.proofs.lemmas.List.Elements.{filter_map-append}
+use Rattle.iso_model.specs.Commands.{value_for}
+use Rattle.iso_words.specs.Given.{values_of, Stood}
+
+pub values_of-append : (key : List ℕ) (xs ys : List (List ℕ)) → values_of key (xs ++ ys) ≡ values_of key xs ++ values_of key ys
+values_of-append key xs ys = filter_map-append (value_for key) xs ys
+
+pub values_of-some : (key : List ℕ) (xs : List (List ℕ)) (word v : List ℕ) → value_for key word ≡ Some v → values_of key (xs ++ word ∷ []) ≡ values_of key xs ++ v ∷ []
+values_of-some key xs word v e = values_of-append key xs (word ∷ []) ∙ ap (λ (o : Option (List ℕ)). values_of key xs ++ cons_option o []) e
+
+pub values_of-none : (key : List ℕ) (xs : List (List ℕ)) (word : List ℕ) → value_for key word ≡ None → values_of key (xs ++ word ∷ []) ≡ values_of key xs ++ []
+values_of-none key xs word e = values_of-append key xs (word ∷ []) ∙ ap (λ (o : Option (List ℕ)). values_of key xs ++ cons_option o []) e
+
+-- a word with another key leaves what stood
+pub Stood-other : {V : Type 0} (P : List ℕ → V → Type 0) (o : Option V) (key : List ℕ) (xs : List (List ℕ)) (word : List ℕ)
+    → value_for key word ≡ None → Stood P o (values_of key xs) → Stood P o (values_of key (xs ++ word ∷ []))
+Stood-other P o key xs word e h = subst (λ (vs : List (List ℕ)). Stood P o vs) (sym (values_of-none key xs word e ∙ append-nil _)) h
+
+-- the first word with the key
+pub Stood-first : {V : Type 0} (P : List ℕ → V → Type 0) (v : V) (key : List ℕ) (xs : List (List ℕ)) (word text : List ℕ)
+    → value_for key word ≡ Some text → P text v → Stood P None (values_of key xs) → Stood P (Some v) (values_of key (xs ++ word ∷ []))
+Stood-first P v key xs word text e p h = (text, values_of-some key xs word text e ∙ ap (λ (vs : List (List ℕ)). vs ++ text ∷ []) h, p)
+
+goes_on : (key : List ℕ) (xs : List (List ℕ)) (word text : List ℕ) (more : List (List ℕ)) → value_for key word ≡ Some text
+    → values_of key ((xs ++ word ∷ []) ++ more) ≡ (values_of key xs ++ text ∷ []) ++ values_of key more
+goes_on key xs word text more e = values_of-append key (xs ++ word ∷ []) more ∙ ap (λ (vs : List (List ℕ)). vs ++ values_of key more) (values_of-some key xs word text e)
+
+two_values : (a b x : List ℕ) (vs : List (List ℕ)) → a ∷ b ∷ vs ≡ x ∷ [] → ⊥
+two_values a b x vs e = cc
+
+first_value : (a x : List ℕ) (vs : List (List ℕ)) → a ∷ vs ≡ x ∷ [] → a ≡ x
+first_value a x vs e = cc
+
+-- a word with a key that stood, or with no value of the key, begins no list in which the key stands once with such a value
+pub never_stands : {V : Type 0} (P : List ℕ → V → Type 0) (old new : Option V) (key : List ℕ) (xs : List (List ℕ)) (word text : List ℕ)
+    → value_for key word ≡ Some text → Stood P old (values_of key xs) → (not (is_some old) && is_some new) ≡ false
+    → MatchOption new ((v : V) → ¬ P text v) (P text)
+    → (more : List (List ℕ)) (v : V) → Stood P (Some v) (values_of key ((xs ++ word ∷ []) ++ more)) → ⊥
+never_stands P (Some o) new key xs word text e stood t read more v (x, only, p) =
+    two_values _ _ x _ (sym (goes_on key xs word text more e ∙ ap (λ (vs : List (List ℕ)). (vs ++ text ∷ []) ++ values_of key more) stood.1) ∙ only)
+never_stands P None (Some n) key xs word text e stood t read more v s = true≢false t
+never_stands P None None key xs word text e stood t read more v (x, only, p) =
+    let same : text ≡ x = first_value text x _ (sym (goes_on key xs word text more e ∙ ap (λ (vs : List (List ℕ)). (vs ++ text ∷ []) ++ values_of key more) stood) ∙ only) in
+    read v (subst (λ (u : List ℕ). P u v) (sym same) p)
+
+-- the value of the first word with the key stands
+pub first_stands : {V : Type 0} (P : List ℕ → V → Type 0) (old new : Option V) (key : List ℕ) (xs : List (List ℕ)) (word text : List ℕ)
+    → value_for key word ≡ Some text → Stood P old (values_of key xs) → (not (is_some old) && is_some new) ≡ true
+    → MatchOption new ((v : V) → ¬ P text v) (P text) → Stood P new (values_of key (xs ++ word ∷ []))
+first_stands P (Some o) new key xs word text e stood t read = absurd (false≢true t)
+first_stands P None None key xs word text e stood t read = absurd (false≢true t)
+first_stands P None (Some v) key xs word text e stood t read = Stood-first P v key xs word text e read stood

@@ -1,0 +1,70 @@
+use Rattle.std.proofs.Common.{◌≡◌, Some, true, refl, sym, ◌∙◌, subst}
+use Rattle.std.specs.Prelude.{codes}
+use Rattle.std.specs.Option.{option_copied}
+use Rattle.std.proofs.lemmas.Bool.{OnTrue_at, OnTrue_from, OnFalse_from}
+use Rattle.std.proofs.lemmas.List.Elements.{All-push}
+use Rattle.iso_model.specs.Commands.{value_for, has_key_of}
+use Rattle.iso_words.specs.declared.keys.Key.{Key}
+use Rattle.iso_words.specs.declared.keys.Key.TheVariants.{Table, Grid}
+use Rattle.iso_words.specs.Keys.{key_text, keys_of, has_key}
+use Rattle.iso_words.specs.Given.{IsFile, IsIsovalue}
+use Rattle.iso_words.proofs.KeyLemmas.{value_for-other, has_key_of-key, has_key_of-no_key}
+use Rattle.iso_words.proofs.StoodLemmas.{first_stands, Stood-other}
+use Rattle.iso_words.proofs.RightLemmas.{not_begin-unkeyed}
+use Rattle.iso_words.proofs.TakeLemmas.{first_file, never_file, never_isovalue}
+use Rattle.iso_words.proofs.given.Given.take.Goals as goal
+
+pub returns-in_default-clause-refused : goal.returns-in_default-clause-refused
+returns-in_default-clause-refused c = λ further g. not_begin-unkeyed c.args.name further c.args.word.now (has_key_of-no_key c.args.name c.args.word.now c.in_default.ensures)
+
+pub returns-then-not-has-clause-refused : goal.returns-then-not-has-clause-refused
+returns-then-not-has-clause-refused c = λ further g.
+    not_begin-unkeyed c.args.name further c.args.word.now (has_key_of-key c.args.name c.in-Some.key c.args.word.now c.in-Some.value.now c.in-Some.ensures ∙ sym c.if-not-has.ensures)
+
+pub returns-in-Table-clause-taken : goal.returns-in-Table-clause-taken
+returns-in-Table-clause-taken c = λ further g. OnTrue_from c.put.result _ (λ t.
+    let e = subst (λ (k : Key). value_for (key_text k) c.args.word.now ≡ Some c.in-Some.value.now) c.in-Table.is c.in-Some.ensures in
+    record {
+      keyed = All-push (λ w. has_key_of (keys_of c.args.name) w ≡ true) further c.args.word.now g.keyed (has_key_of-key c.args.name c.in-Some.key c.args.word.now c.in-Some.value.now c.in-Some.ensures ∙ sym c.if-not-has.ensures);
+      table = rw (OnTrue_at t c.put.ensures.value) (first_file (codes "table") further c.args.word.now c.in-Some.value.now c.args.self.now.table c.file_name.result e g.table c.file_name.ensures (sym c.put.ensures.first ∙ t));
+      grid = Stood-other IsFile (option_copied c.args.self.now.grid) (codes "grid") further c.args.word.now (value_for-other (codes "table") (codes "grid") c.args.word.now c.in-Some.value.now e refl) g.grid;
+      iso = Stood-other IsIsovalue c.args.self.now.iso (codes "iso") further c.args.word.now (value_for-other (codes "table") (codes "iso") c.args.word.now c.in-Some.value.now e refl) g.iso;
+    })
+
+pub returns-in-Table-clause-refused : goal.returns-in-Table-clause-refused
+returns-in-Table-clause-refused c = λ further g. OnFalse_from c.put.result _ (λ t.
+    let e = subst (λ (k : Key). value_for (key_text k) c.args.word.now ≡ Some c.in-Some.value.now) c.in-Table.is c.in-Some.ensures in
+    let has = subst (λ (k : Key). true ≡ has_key c.args.name k) c.in-Table.is c.if-not-has.ensures in
+    never_file c.args.name Table (λ xs s. s) further c.args.word.now c.in-Some.value.now c.args.self.now.table c.file_name.result (sym has) e g.table c.file_name.ensures (sym c.put.ensures.first ∙ t))
+
+pub returns-in-Grid-clause-taken : goal.returns-in-Grid-clause-taken
+returns-in-Grid-clause-taken c = λ further g. OnTrue_from c.put-in-Grid.result _ (λ t.
+    let e = subst (λ (k : Key). value_for (key_text k) c.args.word.now ≡ Some c.in-Some.value.now) c.in-Grid.is c.in-Some.ensures in
+    record {
+      keyed = All-push (λ w. has_key_of (keys_of c.args.name) w ≡ true) further c.args.word.now g.keyed (has_key_of-key c.args.name c.in-Some.key c.args.word.now c.in-Some.value.now c.in-Some.ensures ∙ sym c.if-not-has.ensures);
+      table = Stood-other IsFile (option_copied c.args.self.now.table) (codes "table") further c.args.word.now (value_for-other (codes "grid") (codes "table") c.args.word.now c.in-Some.value.now e refl) g.table;
+      grid = rw (OnTrue_at t c.put-in-Grid.ensures.value) (first_file (codes "grid") further c.args.word.now c.in-Some.value.now c.args.self.now.grid c.file_name-in-Grid.result e g.grid c.file_name-in-Grid.ensures (sym c.put-in-Grid.ensures.first ∙ t));
+      iso = Stood-other IsIsovalue c.args.self.now.iso (codes "iso") further c.args.word.now (value_for-other (codes "grid") (codes "iso") c.args.word.now c.in-Some.value.now e refl) g.iso;
+    })
+
+pub returns-in-Grid-clause-refused : goal.returns-in-Grid-clause-refused
+returns-in-Grid-clause-refused c = λ further g. OnFalse_from c.put-in-Grid.result _ (λ t.
+    let e = subst (λ (k : Key). value_for (key_text k) c.args.word.now ≡ Some c.in-Some.value.now) c.in-Grid.is c.in-Some.ensures in
+    let has = subst (λ (k : Key). true ≡ has_key c.args.name k) c.in-Grid.is c.if-not-has.ensures in
+    never_file c.args.name Grid (λ xs s. s) further c.args.word.now c.in-Some.value.now c.args.self.now.grid c.file_name-in-Grid.result (sym has) e g.grid c.file_name-in-Grid.ensures (sym c.put-in-Grid.ensures.first ∙ t))
+
+pub returns-in-Iso-clause-taken : goal.returns-in-Iso-clause-taken
+returns-in-Iso-clause-taken c = λ further g. OnTrue_from c.put-in-Iso.result _ (λ t.
+    let e = subst (λ (k : Key). value_for (key_text k) c.args.word.now ≡ Some c.in-Some.value.now) c.in-Iso.is c.in-Some.ensures in
+    record {
+      keyed = All-push (λ w. has_key_of (keys_of c.args.name) w ≡ true) further c.args.word.now g.keyed (has_key_of-key c.args.name c.in-Some.key c.args.word.now c.in-Some.value.now c.in-Some.ensures ∙ sym c.if-not-has.ensures);
+      table = Stood-other IsFile (option_copied c.args.self.now.table) (codes "table") further c.args.word.now (value_for-other (codes "iso") (codes "table") c.args.word.now c.in-Some.value.now e refl) g.table;
+      grid = Stood-other IsFile (option_copied c.args.self.now.grid) (codes "grid") further c.args.word.now (value_for-other (codes "iso") (codes "grid") c.args.word.now c.in-Some.value.now e refl) g.grid;
+      iso = rw (OnTrue_at t c.put-in-Iso.ensures.value) (first_stands IsIsovalue c.args.self.now.iso c.isovalue.result (codes "iso") further c.args.word.now c.in-Some.value.now e g.iso (sym c.put-in-Iso.ensures.first ∙ t) c.isovalue.ensures);
+    })
+
+pub returns-in-Iso-clause-refused : goal.returns-in-Iso-clause-refused
+returns-in-Iso-clause-refused c = λ further g. OnFalse_from c.put-in-Iso.result _ (λ t.
+    let e = subst (λ (k : Key). value_for (key_text k) c.args.word.now ≡ Some c.in-Some.value.now) c.in-Iso.is c.in-Some.ensures in
+    let has = subst (λ (k : Key). true ≡ has_key c.args.name k) c.in-Iso.is c.if-not-has.ensures in
+    never_isovalue c.args.name further c.args.word.now c.in-Some.value.now c.args.self.now.iso c.isovalue.result (sym has) e g.iso c.isovalue.ensures (sym c.put-in-Iso.ensures.first ∙ t))

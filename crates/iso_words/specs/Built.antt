@@ -1,0 +1,22 @@
+-- The commands that are built, and what a list of words asks for.
+use Rattle.std.specs.Prelude.{ℕ, Bool, true, false, List, map}
+use Rattle.std.specs.String.{string_bytes}
+use Rattle.std.specs.declared.string.String.{String}
+use Rattle.iso_model.specs.Commands.{Command as Asked, check_command, extract_command}
+use Rattle.iso_words.specs.declared.Command.{Command}
+use Rattle.iso_words.specs.declared.Command.TheVariants.{Check, Extract}
+
+-- the commands that are built
+abbrev pub is_built : Asked → Bool
+is_built (check_command table) = true
+is_built (extract_command table grid iso) = true
+is_built _ = false
+
+-- the bytes of each word
+abbrev pub texts : {A : Type 0} → List (String A) → List (List ℕ)
+texts words = map string_bytes words
+
+-- the command, by the bytes of its values
+abbrev pub asked : Command → Asked
+asked (Check table) = check_command table.now
+asked (Extract table grid iso) = extract_command table.now grid.now iso

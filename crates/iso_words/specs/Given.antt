@@ -1,0 +1,36 @@
+-- What the words of a command gave so far.
+use Rattle.std.specs.Prelude.{◌≡◌, ◌≢◌, ℕ, ℤ, pos, neg_ℤ, ◌≤ℤ◌, List, [], ◌∷◌, filter_map, Option, Some, None, codes, ◌+◌, if◌then◌else◌, is_some}
+use Rattle.std.specs.List.{AllPass}
+use Rattle.std.specs.Option.{option_copied}
+use Rattle.iso_model.specs.Commands.{value_for, has_key_of, IsNumber, iso_limit}
+use Rattle.iso_words.specs.Keys.{keys_of}
+use Rattle.iso_words.specs.declared.keys.CommandName.{CommandName}
+use Rattle.iso_words.specs.declared.given.Given.{Given}
+
+-- a file name has at least one character
+abbrev pub IsFile : List ℕ → List ℕ → Type 0
+IsFile text name = (text ≡ name) × (name ≢ [])
+
+-- the text of an isovalue within its limits
+abbrev pub IsIsovalue : List ℕ → ℤ → Type 0
+IsIsovalue text n = IsNumber text n × (neg_ℤ (pos iso_limit) ≤ℤ n) × (n ≤ℤ pos iso_limit)
+
+-- the values of a key in words behind the first
+abbrev pub values_of : List ℕ → List (List ℕ) → List (List ℕ)
+values_of key further = filter_map (value_for key) further
+
+-- a key did not stand yet, or it stood once, with a text of this value
+abbrev pub Stood : {V : Type 0} → (List ℕ → V → Type 0) → Option V → List (List ℕ) → Type 0
+Stood P None values = values ≡ []
+Stood P (Some v) values = (text : List ℕ) × (values ≡ text ∷ []) × P text v
+
+-- the words behind the command's name have keys of the command, none twice, and give these values
+pub record Gave (name : CommandName) (further : List (List ℕ)) (given : Given) : Type 0 where
+  pub keyed : AllPass (has_key_of (keys_of name)) further
+  pub table : Stood IsFile (option_copied given.table) (values_of (codes "table") further)
+  pub grid : Stood IsFile (option_copied given.grid) (values_of (codes "grid") further)
+  pub iso : Stood IsIsovalue given.iso (values_of (codes "iso") further)
+
+-- how many values were given
+abbrev pub given_count : Given → ℕ
+given_count given = (if is_some given.table then 1 else 0) + (if is_some given.grid then 1 else 0) + (if is_some given.iso then 1 else 0)

@@ -1,0 +1,29 @@
+-- The keys and the commands, by their words.
+use Rattle.std.specs.Prelude.{ℕ, Bool, true, false, List, [], ◌∷◌, codes}
+use Rattle.iso_words.specs.declared.keys.Key.{Key}
+use Rattle.iso_words.specs.declared.keys.Key.TheVariants.{Table, Grid, Iso}
+use Rattle.iso_words.specs.declared.keys.CommandName.{CommandName}
+use Rattle.iso_words.specs.declared.keys.CommandName.TheVariants.{Check, Extract}
+
+-- the word of a key
+abbrev pub key_text : Key → List ℕ
+key_text Table = codes "table"
+key_text Grid = codes "grid"
+key_text Iso = codes "iso"
+
+-- the word of a command
+abbrev pub name_text : CommandName → List ℕ
+name_text Check = codes "check"
+name_text Extract = codes "extract"
+
+-- the words of a command's keys
+abbrev pub keys_of : CommandName → List (List ℕ)
+keys_of Check = codes "table" ∷ []
+keys_of Extract = codes "table" ∷ codes "grid" ∷ codes "iso" ∷ []
+
+-- a command has a key
+abbrev pub has_key : CommandName → Key → Bool
+has_key Check Table = true
+has_key Check Grid = false
+has_key Check Iso = false
+has_key Extract key = true

@@ -1,0 +1,84 @@
+//! The values that the words of a command gave so far.
+
+ghost use Rattle.std.specs.Prelude.{◌≡◌, ◌+◌, ℕ, ℤ, List, [], ◌∷◌, ◌++◌, is_some, not, ◌&&◌, IfSome, IfNone};
+ghost use Rattle.std.specs.Bool.{OnTrue, OnFalse};
+
+use crate::Command;
+use crate::keys::{CommandName, Key};
+use crate::values::{file_name, isovalue};
+
+/// The value of each key that stood.
+#[derive(Clone, Copy)]
+pub(crate) struct Given<'a> {
+    table: Option<&'a str>,
+    grid: Option<&'a str>,
+    iso: Option<i64>,
+}
+
+impl<'a> Given<'a> {
+    ghost use Rattle.iso_model.specs.Commands.{BeginRight, AreRight, Say};
+    ghost use Rattle.iso_words.specs.Built.{is_built, asked};
+    ghost use Rattle.iso_words.specs.Keys.{name_text};
+    ghost use Rattle.iso_words.specs.Given.{Gave, given_count};
+
+    // Nothing yet.
+    pub(crate) fn nothing() -> Given<'a>
+        ensures gave { (name : CommandName) → Gave name [] result }
+        ensures count { given_count result ≡ 0 }
+    {
+        Given {
+            table: None,
+            grid: None,
+            iso: None,
+        }
+    }
+
+    // Takes the value of one more word of a command, or changes nothing where no right list goes on with the word.
+    pub(crate) fn take(&mut self, name: CommandName, word: &'a str) -> bool
+        ensures taken { (further : List (List ℕ)) → Gave name further self.old → OnTrue result (Gave name (further ++ word.entry.now ∷ []) self.new) }
+        ensures refused { (further : List (List ℕ)) → Gave name further self.old → OnFalse result (¬ BeginRight is_built (name_text name ∷ (further ++ word.entry.now ∷ []))) }
+        ensures count { OnTrue result (given_count self.new ≡ given_count self.old + 1) }
+        ensures same { OnFalse result (self.new ≡ self.old) }
+    {
+        let Some((key, value)) = Key::with_value(word) else {
+            return false;
+        };
+        if !name.has(key) {
+            return false;
+        }
+        match key {
+            Key::Table => put(&mut self.table, file_name(value)),
+            Key::Grid => put(&mut self.grid, file_name(value)),
+            Key::Iso => put(&mut self.iso, isovalue(value)),
+        }
+    }
+
+    // The command, if no key of it is missing.
+    pub(crate) fn command(self, name: CommandName) -> Option<Command<'a>>
+        ensures said { (further : List (List ℕ)) → Gave name further self.entry → IfSome result (λ command. Say (name_text name ∷ further) (asked command)) }
+        ensures early { (further : List (List ℕ)) → Gave name further self.entry → IfNone result (¬ AreRight is_built (name_text name ∷ further)) }
+    {
+        match (name, self.table, self.grid, self.iso) {
+            (CommandName::Check, Some(table), _, _) => Some(Command::Check { table }),
+            (CommandName::Extract, Some(table), Some(grid), Some(iso)) => Some(Command::Extract {
+                table,
+                grid,
+                iso,
+            }),
+            _ => None,
+        }
+    }
+}
+
+// Puts a value where there was none, or changes nothing.
+fn put<T: Copy>(place: &mut Option<T>, value: Option<T>) -> bool
+    ensures first { result ≡ (not (is_some place.old) && is_some value) }
+    ensures value { OnTrue result (place.new ≡ value) }
+    ensures same { OnFalse result (place.new ≡ place.old) }
+{
+    if place.is_some() || value.is_none() {
+        return false;
+    }
+    *place = value;
+    true
+}

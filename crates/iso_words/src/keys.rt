@@ -1,0 +1,78 @@
+//! The commands and their keys, by name.
+
+/// A command, by its name.
+#[derive(Clone, Copy)]
+pub(crate) enum CommandName {
+    Check,
+    Extract,
+}
+
+impl CommandName {
+    ghost use Rattle.std.specs.Prelude.{◌≡◌, ◌≢◌, MatchOption};
+    ghost use Rattle.iso_words.specs.Keys.{name_text, has_key};
+
+    // The command that a word names.
+    pub(crate) fn named(word: &str) -> Option<CommandName>
+        ensures { MatchOption result ((name : CommandName) → word.now ≢ name_text name) (λ name. word.now ≡ name_text name) }
+    {
+        if word == "check" {
+            Some(CommandName::Check)
+        } else if word == "extract" {
+            Some(CommandName::Extract)
+        } else {
+            None
+        }
+    }
+
+    // Whether the command has the key.
+    pub(crate) fn has(self, key: Key) -> bool
+        ensures { result ≡ has_key self key }
+    {
+        match self {
+            CommandName::Check => matches!(key, Key::Table),
+            CommandName::Extract => true,
+        }
+    }
+}
+
+/// A key, by its name.
+#[derive(Clone, Copy)]
+pub(crate) enum Key {
+    Table,
+    Grid,
+    Iso,
+}
+
+impl Key {
+    ghost use Rattle.std.specs.Prelude.{◌≡◌, ◌≢◌, Some, None, MatchOption};
+    ghost use Rattle.iso_model.specs.Commands.{value_for};
+    ghost use Rattle.iso_words.specs.Keys.{key_text};
+
+    // The key that a text names.
+    fn named(text: &str) -> Option<Key>
+        ensures { MatchOption result ((key : Key) → text.now ≢ key_text key) (λ key. text.now ≡ key_text key) }
+    {
+        if text == "table" {
+            Some(Key::Table)
+        } else if text == "grid" {
+            Some(Key::Grid)
+        } else if text == "iso" {
+            Some(Key::Iso)
+        } else {
+            None
+        }
+    }
+
+    // The key of a word, and its value.
+    pub(crate) fn with_value(word: &str) -> Option<(Key, &str)>
+        ensures { MatchOption result ((key : Key) → value_for (key_text key) word.now ≡ None) (λ pair. value_for (key_text pair.0) word.now ≡ Some pair.1.now) }
+    {
+        let Some((text, value)) = word.split_once('=') else {
+            return None;
+        };
+        let Some(key) = Key::named(text) else {
+            return None;
+        };
+        Some((key, value))
+    }
+}

@@ -1,0 +1,72 @@
+//! The words of the program: the command that they say, and the first wrong word where they say none.
+//!
+//! The first word is the command, and every further one is a key, `=` and a value; a key ends at the first `=`.
+//! Each key of the command stands exactly once, in any order:
+//!
+//! | words | asks |
+//! |---|---|
+//! | `check table=F` | whether the table of the file is accepted |
+//! | `extract table=F grid=F iso=N` | the mesh of the grid at the isovalue |
+//!
+//! F is a file name of at least one character. N is an optional `-` and digits, without a leading zero but `0` itself,
+//! and not `-0`; it lies from -1099511627776 to 1099511627776. Letter case matters everywhere.
+#![tactic(auto)]
+
+ghost use Rattle.std.specs.Prelude.{◌≡◌, ℕ, IsTrue, IfOk, IfErr, IsOkAnd, IsErrAnd};
+ghost use Rattle.iso_model.specs.Commands.{Command as Asked, Say, IsWrongWord};
+ghost use Rattle.iso_words.specs.Built.{is_built, texts, asked};
+
+mod given;
+mod keys;
+mod values;
+
+use given::Given;
+use keys::CommandName;
+
+/// What the words ask for.
+#[derive(Clone, Copy, Debug, PartialEq, Eq)]
+pub enum Command<'a> {
+    /// Check the table of a file.
+    Check {
+        table: &'a str,
+    },
+    /// Extract the mesh of a grid, by a table, at an isovalue.
+    Extract {
+        table: &'a str,
+        grid: &'a str,
+        iso: i64,
+    },
+}
+
+/// The first wrong word, counted from 1: no right list of words begins with the words up to it. Where the list
+/// ends too early it is the length of the list plus 1.
+#[derive(Clone, Copy, Debug, PartialEq, Eq)]
+pub struct WrongWord(pub u32);
+
+/// The command that the words say, or the first wrong word. `words` are the words after the program's name.
+pub fn parse(words: &[String]) -> Result<Command<'_>, WrongWord>
+    ensures said { IfOk result (λ command. Say (texts words.now) (asked command)) }
+    ensures exact { (command : Asked) → IsTrue (is_built command) → Say (texts words.now) command → IsOkAnd result (λ given. asked given ≡ command) }
+    ensures wrong { (n : ℕ) → IsWrongWord is_built (texts words.now) n → IsErrAnd result (λ wrong. wrong.0 ≡ n) }
+    ensures place { IfErr result (λ wrong. IsWrongWord is_built (texts words.now) wrong.0) }
+{
+    let Some((first, further)) = words.split_first() else {
+        return Err(WrongWord(1));
+    };
+    let Some(name) = CommandName::named(first.as_str()) else {
+        return Err(WrongWord(1));
+    };
+    let mut given = Given::nothing();
+    for (i, word) in further.iter().enumerate() {
+        if !given.take(name, word.as_str()) {
+            return Err(WrongWord(i as u32 + 2));
+        }
+    }
+    match given.command(name) {
+        Some(command) => Ok(command),
+        None => Err(WrongWord(further.len() as u32 + 2)),
+    }
+}
+
+#[cfg(test)]
+mod tests;

@@ -1,0 +1,129 @@
+use super::*;
+use std::alloc::{AllocError, Global};
+use std::test::Fail;
+
+// The words of a line, between single spaces; an empty line has none.
+fn words_of(alloc: Global, line: &str) -> Result<Vec<String>, AllocError> {
+    let mut words = Vec::new(alloc);
+    if !line.is_empty() {
+        for word in line.split(' ') {
+            words.push(String::from_str(alloc, word)?)?;
+        }
+    }
+    Ok(words)
+}
+
+const fn check(table: &str) -> Command<'_> {
+    Command::Check { table }
+}
+
+const fn extract<'a>(table: &'a str, grid: &'a str, iso: i64) -> Command<'a> {
+    Command::Extract { table, grid, iso }
+}
+
+#[test]
+fn right_words_say_their_command(rt: HostRuntime) -> Result<(), Fail> {
+    let rows = [
+        ("check table=a", check("a")),
+        ("check table==x=y", check("=x=y")),
+        ("check table=A", check("A")),
+        ("check table=größe.tab", check("größe.tab")),
+        // each order of the keys
+        ("extract table=a grid=b iso=1", extract("a", "b", 1)),
+        ("extract table=a iso=1 grid=b", extract("a", "b", 1)),
+        ("extract grid=b table=a iso=1", extract("a", "b", 1)),
+        ("extract grid=b iso=1 table=a", extract("a", "b", 1)),
+        ("extract iso=1 table=a grid=b", extract("a", "b", 1)),
+        ("extract iso=1 grid=b table=a", extract("a", "b", 1)),
+        // isovalues
+        ("extract table=a grid=b iso=0", extract("a", "b", 0)),
+        ("extract table=a grid=b iso=-5", extract("a", "b", -5)),
+        ("extract table=a grid=b iso=-10", extract("a", "b", -10)),
+        (
+            "extract table=a grid=b iso=1099511627776",
+            extract("a", "b", 1099511627776),
+        ),
+        (
+            "extract table=a grid=b iso=-1099511627776",
+            extract("a", "b", -1099511627776),
+        ),
+        (
+            "extract table=iso=1 grid=table=a iso=2",
+            extract("iso=1", "table=a", 2),
+        ),
+    ];
+    for (line, command) in rows {
+        let words = words_of(rt.alloc(), line)?;
+        assert_eq!(rt; parse(words.as_slice()), Ok(command), "at {line}");
+    }
+    Ok(())
+}
+
+#[test]
+fn wrong_words_are_counted(rt: HostRuntime) -> Result<(), Fail> {
+    let rows = [
+        // commands
+        ("", 1),
+        (" ", 1),
+        ("table=a", 1),
+        ("table=a check", 1),
+        ("Check table=a", 1),
+        ("CHECK", 1),
+        ("check=a table=a", 1),
+        ("generate dim=2 kind=pyramid", 1),
+        ("demo kind=cube dim=2 size=2 seed=0", 1),
+        // a key is missing
+        ("check", 2),
+        ("extract", 2),
+        ("extract iso=1", 3),
+        ("extract table=a grid=b", 4),
+        ("extract table=a iso=1", 4),
+        ("extract grid=b iso=1", 4),
+        // a key that stood before
+        ("check table=a table=a", 3),
+        ("check table=a table=b", 3),
+        ("extract table=a table=b grid=c iso=0", 3),
+        ("extract grid=a grid=b", 3),
+        ("extract iso=1 iso=2", 3),
+        ("extract table=a grid=b iso=0 iso=0", 5),
+        // no key of the command
+        ("check ", 2),
+        ("check table", 2),
+        ("check =a", 2),
+        ("check Table=a", 2),
+        ("check grid=a", 2),
+        ("check table=a grid=b", 3),
+        ("extract TABLE=a", 2),
+        ("extract table=a blank=0", 3),
+        ("extract table=a grid=b Iso=1", 4),
+        ("extract table=a grid=b iso", 4),
+        ("extract table=a grid=b iso=1 x", 5),
+        ("extract table=a grid=b iso=1 x y", 5),
+        // no right value
+        ("check table=", 2),
+        ("extract table=a grid= iso=05", 3),
+        ("extract table=a grid=b iso=05", 4),
+        ("extract table=a grid=b iso=00", 4),
+        ("extract table=a grid=b iso=-05", 4),
+        ("extract table=a grid=b iso=+5", 4),
+        ("extract table=a grid=b iso=-0", 4),
+        ("extract table=a grid=b iso=", 4),
+        ("extract table=a grid=b iso=-", 4),
+        ("extract table=a grid=b iso=--5", 4),
+        ("extract table=a grid=b iso=5a", 4),
+        ("extract table=a grid=b iso=5=5", 4),
+        ("extract table=a grid=b iso=1099511627777", 4),
+        ("extract table=a grid=b iso=-1099511627777", 4),
+        ("extract table=a grid=b iso=9223372036854775808", 4),
+        (
+            "extract table=a grid=b iso=123456789012345678901234567890123456789012345678901234567890",
+            4,
+        ),
+        ("extract iso=05 x x x x x x x", 2),
+    ];
+    for (line, place) in rows {
+        let words = words_of(rt.alloc(), line)?;
+        assert_eq!(rt; parse(words.as_slice()), Err(WrongWord(place)), "at {line}");
+    }
+    Ok(())
+}
