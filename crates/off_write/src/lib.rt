@@ -5,6 +5,8 @@
 
 mod lines;
 mod page;
+#[cfg(test)]
+mod tests;
 mod write;
 
 pub use write::{WriteFault, write_mesh};
