@@ -11,7 +11,7 @@ pub format_not_three : (d : ℕ) → (d ≡ 3 → ⊥) → format_lines d ≡ (1
 unfolding format_lines
 format_not_three d h = let e : (d == 3) ≡ false = grind arith in rw e refl
 
-text_is : (d : ℕ) (m : Mesh) → (head d (length m.vertices) (length m.simplices) ++ vertex_lines m.vertices) ++ simplex_lines d m.simplices ≡ mesh_text d m
+pub text_is : (d : ℕ) (m : Mesh) → (head d (length m.vertices) (length m.simplices) ++ vertex_lines m.vertices) ++ simplex_lines d m.simplices ≡ mesh_text d m
 unfolding head format_lines vertex_lines simplex_lines mesh_text
 text_is d m = refl
 

@@ -3,10 +3,12 @@
 //! The text is gathered in a fixed buffer and put to a sink in large pieces; no call allocates.
 #![tactic(auto)]
 
+mod law;
 mod lines;
 mod page;
 #[cfg(test)]
 mod tests;
 mod write;
 
+pub use law::text_law;
 pub use write::{WriteFault, write_mesh};
