@@ -1,0 +1,5 @@
+mod Waiting
+mod Texts
+mod Parts
+mod Pieces
+mod TextLaws

@@ -1,0 +1,123 @@
+//! Putting a mesh's text to a sink.
+
+ghost use Rattle.std.specs.Prelude.{◌≡◌, ◌+◌, ◌≤◌, ◌⊎◌, List, [], ◌∷◌, ◌++◌, length, map, flat_map, OnOk, OnErr, IfErr};
+ghost use Rattle.std.specs.Fmt.{decimal};
+ghost use Rattle.std.specs.Io.KnownBytes.{Appends};
+ghost use Rattle.iso_base.specs.Faults.{Rose, CountsFaults};
+ghost use Rattle.iso_base.specs.Fronts.{AppendsFront};
+ghost use Rattle.iso_model.specs.MeshText.{mesh_text};
+ghost use Rattle.off_write.specs.Pages.{page_size, vertex_lines, simplex_lines, AllButPage};
+
+use crate::lines::{push_head, push_simplex, push_vertex};
+use crate::page::{PAGE_SIZE, Page};
+use iso_base::{Failed, Sink, put_all};
+use mesh_laws::Mesh;
+
+/// The sink failed.
+///
+/// It holds the sink's count of faults after the failure.
+#[derive(Clone, Copy, Debug, PartialEq, Eq, Drop)]
+pub struct WriteFault(pub u64);
+
+// What no line is longer than.
+const LINE_SIZE: usize = 128;
+
+// Puts the page, and empties it.
+fn put_page<O: Sink>(page: &mut Page, out: &mut O) -> Result<(), Failed>
+    ensures faults { CountsFaults (O.faults out.old) (O.faults out.new) result }
+    ensures all { OnOk result (Appends (O.bytes out.old) (O.bytes out.new) page.old) }
+    ensures empty { OnOk result (page.new ≡ []) }
+    ensures front { OnErr result (AppendsFront (O.bytes out.old) (O.bytes out.new) page.old) }
+{
+    put_all(out, page.text())?;
+    page.clear();
+    Ok(())
+}
+
+// Puts the page where a line might find no room in it.
+fn make_room<O: Sink>(page: &mut Page, out: &mut O) -> Result<(), Failed>
+    ensures faults { CountsFaults (O.faults out.old) (O.faults out.new) result }
+    ensures waits { OnOk result (AllButPage (O.bytes out.old) (O.bytes out.new) page.old page.new) }
+    ensures room { OnOk result (length page.new + 128 ≤ page_size) }
+    ensures front { OnErr result (AppendsFront (O.bytes out.old) (O.bytes out.new) page.old) }
+{
+    if page.len() > PAGE_SIZE - LINE_SIZE {
+        put_page(page, out)?;
+    }
+    Ok(())
+}
+
+fn put_vertices<const D: usize, O: Sink>(
+    vertices: &[[i64; D]],
+    page: &mut Page,
+    out: &mut O,
+) -> Result<(), Failed>
+    requires dimension { (D ≡ 2) ⊎ ((D ≡ 3) ⊎ (D ≡ 4)) }
+    ensures faults { CountsFaults (O.faults out.old) (O.faults out.new) result }
+    ensures waits { OnOk result (AllButPage (O.bytes out.old) (O.bytes out.new) (page.old ++ vertex_lines vertices.now) page.new) }
+    ensures front { OnErr result (AppendsFront (O.bytes out.old) (O.bytes out.new) (page.old ++ vertex_lines vertices.now)) }
+{
+    for vertex in vertices {
+        make_room(page, out)?;
+        push_vertex(page, vertex);
+    }
+    Ok(())
+}
+
+fn put_simplices<const D: usize, O: Sink>(
+    simplices: &[[u32; D]],
+    page: &mut Page,
+    out: &mut O,
+) -> Result<(), Failed>
+    requires dimension { (D ≡ 2) ⊎ ((D ≡ 3) ⊎ (D ≡ 4)) }
+    ensures faults { CountsFaults (O.faults out.old) (O.faults out.new) result }
+    ensures waits { OnOk result (AllButPage (O.bytes out.old) (O.bytes out.new) (page.old ++ simplex_lines D simplices.now) page.new) }
+    ensures front { OnErr result (AppendsFront (O.bytes out.old) (O.bytes out.new) (page.old ++ simplex_lines D simplices.now)) }
+{
+    for simplex in simplices {
+        make_room(page, out)?;
+        push_simplex(page, simplex);
+    }
+    Ok(())
+}
+
+fn put_mesh<const D: usize, O: Sink>(mesh: &Mesh<D>, out: &mut O) -> Result<(), Failed>
+    requires dimension { (D ≡ 2) ⊎ ((D ≡ 3) ⊎ (D ≡ 4)) }
+    ensures faults { CountsFaults (O.faults out.old) (O.faults out.new) result }
+    ensures all { OnOk result (Appends (O.bytes out.old) (O.bytes out.new) (mesh_text D mesh.now)) }
+    ensures front { OnErr result (AppendsFront (O.bytes out.old) (O.bytes out.new) (mesh_text D mesh.now)) }
+{
+    let vertices = mesh.vertices.as_slice();
+    let simplices = mesh.simplices.as_slice();
+    let mut page = Page::new();
+    push_head(
+        &mut page,
+        D as u64,
+        vertices.len() as u64,
+        simplices.len() as u64,
+    );
+    put_vertices(vertices, &mut page, out)?;
+    put_simplices(simplices, &mut page, out)?;
+    put_page(&mut page, out)
+}
+
+/// Puts the text of a mesh of two, three or four dimensions.
+///
+/// The first line is `OFF` in three dimensions; else it is `nOFF`, and the second is the dimension. Then come the
+/// number of vertices, the number of simplices and `0`, a line of coordinates with six decimals for each vertex, and a
+/// line for each simplex: the dimension, and the numbers of its vertices from 0.
+///
+/// After a failure a front of the text was put.
+pub fn write_mesh<const D: usize, O: Sink>(mesh: &Mesh<D>, out: &mut O) -> Result<(), WriteFault>
+    requires dimension { (D ≡ 2) ⊎ ((D ≡ 3) ⊎ (D ≡ 4)) }
+    ensures text { OnOk result (Appends (O.bytes out.old) (O.bytes out.new) (mesh_text D mesh.now)) }
+    ensures front { OnErr result (AppendsFront (O.bytes out.old) (O.bytes out.new) (mesh_text D mesh.now)) }
+    ensures later { O.faults out.old ≤ O.faults out.new }
+    ensures rose { OnErr result (Rose (O.faults out.old) (O.faults out.new)) }
+    ensures counted { IfErr result (λ fault. fault.0 ≡ O.faults out.new) }
+{
+    match put_mesh(mesh, out) {
+        Ok(()) => Ok(()),
+        Err(failed) => Err(WriteFault(failed.count)),
+    }
+}
