@@ -1,5 +1,5 @@
 -- How two to four sizes stand in four places.
-use Rattle.std.specs.Prelude.{◌≡◌, ℕ, ◌-◌, ◌≤◌, min, List, ◌++◌, length, take, drop, replicate}
+use Rattle.std.specs.Prelude.{◌≡◌, ℕ, ◌-◌, ◌≤◌, List, ◌++◌, length, take, drop, replicate, All}
 use Rattle.std.proofs.Common.{sym, ap, ◌∙◌, arith, take-append-drop}
 use Rattle.std.proofs.lemmas.List.{length-take}
 
@@ -22,3 +22,7 @@ pub sizes-stated : (dims : ℕ) (sizes : List ℕ) → HasShape dims sizes → a
 sizes-stated dims sizes shape =
     ap (λ n. take dims sizes ++ replicate (4 - n) 1) (axes-stated dims sizes shape)
     ∙ ap (λ ones. take dims sizes ++ ones) (sym shape.beyond) ∙ take-append-drop dims sizes
+
+-- sizes that a file may state
+abbrev pub AreSizes : List ℕ → Type 0
+AreSizes sizes = All (λ n. (1 ≤ n) × (n ≤ 4294967295)) sizes

@@ -8,20 +8,20 @@
 
 
 
+mod content;
+mod decode;
 mod faults;
-
-
+mod fronts;
 mod grids;
 mod headers;
-
-
-
-
+mod lines;
+mod numerals;
+mod pieces;
 mod reading;
-
-
-
-
+mod stated;
+#[cfg(test)]
+mod tests;
+mod words;
 
 pub use faults::GridFault;
 pub use grids::Grid;

@@ -6,11 +6,22 @@ ghost use Rattle.iso_model.specs.GridFile.{IsRegularHeader, sample_limit};
 ghost use Rattle.nrrd_raw.specs.Faults.{BlamesShelf, is_shelf_fault, is_header_fault, is_sample_fault};
 ghost use Rattle.nrrd_raw.specs.Taken.{TakesAtMost};
 
+use crate::decode::write_samples;
 use crate::faults::GridFault;
+use crate::fronts::take_front;
 use crate::grids::Grid;
 use crate::headers::Header;
+use crate::pieces::fill;
+use crate::stated::header_of;
+use arrayvec::ArrayVec;
 use iso_base::Shelf;
 use std::alloc::Global;
+
+/// The most samples that a grid has.
+const SAMPLE_LIMIT: u128 = 1 << 27;
+
+/// The bytes that are taken at a time, a number of whole samples of each width.
+const PIECE: usize = 1 << 16;
 
 /// Reads the header at the front of the rest of the file that was begun. Takes its bytes one at a time, and none
 /// behind its end. Takes no memory.
@@ -24,8 +35,9 @@ pub fn read_header<S: Shelf>(shelf: &mut S) -> Result<Header, GridFault>
     ensures taken { TakesAtMost 65536 (S.rest shelf.old) (S.rest shelf.new) }
     ensures regular { IfOk result IsRegularHeader }
 {
-    let _ = shelf;
-    Err(GridFault::Magic)
+    let mut front = ArrayVec::new();
+    take_front(shelf, &mut front)?;
+    header_of(&front)
 }
 
 /// Reads the samples that stand behind a header, up to the end of the file.
@@ -44,8 +56,78 @@ pub fn read_samples<S: Shelf>(alloc: Global, shelf: &mut S, header: &Header) -> 
     ensures sizes { IfOk result (λ grid. grid.sizes ≡ header.now.sizes) }
     ensures regular { IfOk result IsRegularGrid }
 {
-    let _ = (shelf, header, alloc);
-    Err(GridFault::Memory)
+    let count = sample_count(&header.sizes);
+    if count > SAMPLE_LIMIT {
+        return Err(GridFault::TooLarge(count));
+    }
+    let samples = take_samples(alloc, shelf, header, count as usize)?;
+    Ok(Grid {
+        dims: header.dims,
+        sizes: header.sizes,
+        samples,
+    })
+}
+
+/// The product of the sizes.
+fn sample_count(sizes: &[u64; 4]) -> u128 {
+    area(sizes[0], sizes[1]) * area(sizes[2], sizes[3])
+}
+
+/// The product of two sizes.
+fn area(a: u64, b: u64) -> u128 {
+    u128::from(a) * u128::from(b)
+}
+
+/// Takes so many samples, piece by piece, and sees that the file ends behind them.
+fn take_samples<S: Shelf>(
+    alloc: Global,
+    shelf: &mut S,
+    header: &Header,
+    count: usize,
+) -> Result<Vec<i64>, GridFault> {
+    let width = usize::from(header.width);
+    let mut piece = [0u8; PIECE];
+    let mut samples = Vec::new(alloc);
+    while samples.len() < count {
+        let wanted = PIECE.min((count - samples.len()) * width);
+        let came = fill(shelf, &mut piece[..wanted])?;
+        if came < wanted {
+            return Err(GridFault::DataShort((samples.len() * width + came) as u64));
+        }
+        append(&mut samples, header, &piece[..wanted], count)?;
+    }
+    if fill(shelf, &mut piece[..1])? > 0 {
+        return Err(GridFault::Trailing);
+    }
+    Ok(samples)
+}
+
+/// Appends the samples of a piece. There are to be `count` in the end.
+fn append(
+    samples: &mut Vec<i64>,
+    header: &Header,
+    piece: &[u8],
+    count: usize,
+) -> Result<(), GridFault> {
+    let start = samples.len();
+    let more = piece.len() / usize::from(header.width);
+    make_room(samples, more, count)?;
+    if samples.resize(start + more, 0).is_err() {
+        return Err(GridFault::Memory);
+    }
+    write_samples(header, piece, &mut samples[start..]);
+    Ok(())
+}
+
+/// Makes room for `more` samples of `count` in the end: where there is none, twice the room, but no more than for all
+/// of them.
+fn make_room(samples: &mut Vec<i64>, more: usize, count: usize) -> Result<(), GridFault> {
+    let left = count - samples.len();
+    let room = samples.capacity().max(more).min(left);
+    if samples.capacity() - samples.len() < more && samples.reserve_exact(room).is_err() {
+        return Err(GridFault::Memory);
+    }
+    Ok(())
 }
 
 /// Reads a whole grid file that was begun: its header, and the samples behind it.

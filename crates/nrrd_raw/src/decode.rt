@@ -1,0 +1,96 @@
+//! Samples from bytes.
+
+use crate::headers::Header;
+use byteorder::{BigEndian, ByteOrder, LittleEndian};
+use std::marker::PhantomData;
+
+/// How a group of bytes spells a sample.
+trait Form {
+    /// The bytes of a sample.
+    const WIDTH: usize;
+
+    /// The sample that the bytes at the front of `group` spell.
+    fn sample(group: &[u8]) -> i64;
+}
+
+struct Signed8;
+
+struct Unsigned8;
+
+struct Signed16<B: ByteOrder>(PhantomData<B>);
+
+struct Unsigned16<B: ByteOrder>(PhantomData<B>);
+
+struct Signed32<B: ByteOrder>(PhantomData<B>);
+
+struct Unsigned32<B: ByteOrder>(PhantomData<B>);
+
+impl Form for Signed8 {
+    const WIDTH: usize = 1;
+
+    fn sample(group: &[u8]) -> i64 {
+        i64::from(group[0].cast_signed())
+    }
+}
+
+impl Form for Unsigned8 {
+    const WIDTH: usize = 1;
+
+    fn sample(group: &[u8]) -> i64 {
+        i64::from(group[0])
+    }
+}
+
+impl<B: ByteOrder> Form for Signed16<B> {
+    const WIDTH: usize = 2;
+
+    fn sample(group: &[u8]) -> i64 {
+        i64::from(B::read_i16(group))
+    }
+}
+
+impl<B: ByteOrder> Form for Unsigned16<B> {
+    const WIDTH: usize = 2;
+
+    fn sample(group: &[u8]) -> i64 {
+        i64::from(B::read_u16(group))
+    }
+}
+
+impl<B: ByteOrder> Form for Signed32<B> {
+    const WIDTH: usize = 4;
+
+    fn sample(group: &[u8]) -> i64 {
+        i64::from(B::read_i32(group))
+    }
+}
+
+impl<B: ByteOrder> Form for Unsigned32<B> {
+    const WIDTH: usize = 4;
+
+    fn sample(group: &[u8]) -> i64 {
+        i64::from(B::read_u32(group))
+    }
+}
+
+/// Writes the samples that a piece of data bytes spells.
+pub(crate) fn write_samples(header: &Header, piece: &[u8], samples: &mut [i64]) {
+    match (header.width, header.signed) {
+        (1, true) => write_as::<Signed8>(piece, samples),
+        (1, false) => write_as::<Unsigned8>(piece, samples),
+        (2, true) if header.big => write_as::<Signed16<BigEndian>>(piece, samples),
+        (2, true) => write_as::<Signed16<LittleEndian>>(piece, samples),
+        (2, false) if header.big => write_as::<Unsigned16<BigEndian>>(piece, samples),
+        (2, false) => write_as::<Unsigned16<LittleEndian>>(piece, samples),
+        (_, true) if header.big => write_as::<Signed32<BigEndian>>(piece, samples),
+        (_, true) => write_as::<Signed32<LittleEndian>>(piece, samples),
+        (_, false) if header.big => write_as::<Unsigned32<BigEndian>>(piece, samples),
+        (_, false) => write_as::<Unsigned32<LittleEndian>>(piece, samples),
+    }
+}
+
+fn write_as<F: Form>(piece: &[u8], samples: &mut [i64]) {
+    for i in 0..samples.len() {
+        samples[i] = F::sample(&piece[i * F::WIDTH..]);
+    }
+}
