@@ -30,3 +30,11 @@ is_sample_fault Trailing = true
 is_sample_fault (Shelf count) = true
 is_sample_fault Memory = true
 is_sample_fault fault = false
+
+-- the samples' bytes are too few or too many, or the shelf is blamed, or memory was refused
+abbrev pub is_data_fault : GridFault → Bool
+is_data_fault (DataShort count) = true
+is_data_fault Trailing = true
+is_data_fault (Shelf count) = true
+is_data_fault Memory = true
+is_data_fault fault = false

@@ -1,5 +1,5 @@
 -- How two to four sizes stand in four places.
-use Rattle.std.specs.Prelude.{◌≡◌, ℕ, ◌-◌, ◌≤◌, List, ◌++◌, length, take, drop, replicate, All}
+use Rattle.std.specs.Prelude.{◌≡◌, ℕ, ◌-◌, ◌≤◌, List, ◌++◌, length, take, drop, replicate, All, Bool, ◌||◌, ◌==◌, ◌^◌, ℤ, pos, neg_ℤ, ◌≤ℤ◌}
 use Rattle.std.proofs.Common.{sym, ap, ◌∙◌, arith, take-append-drop}
 use Rattle.std.proofs.lemmas.List.{length-take}
 
@@ -26,3 +26,11 @@ sizes-stated dims sizes shape =
 -- sizes that a file may state
 abbrev pub AreSizes : List ℕ → Type 0
 AreSizes sizes = All (λ n. (1 ≤ n) × (n ≤ 4294967295)) sizes
+
+-- 1, 2 or 4 bytes
+abbrev pub is_width : ℕ → Bool
+is_width width = width == 1 || (width == 2 || width == 4)
+
+-- samples that a grid may have
+abbrev pub InRange : ℤ → Type 0
+InRange s = (neg_ℤ (pos (2 ^ 31)) ≤ℤ s) × (s ≤ℤ pos (2 ^ 32 - 1))

@@ -44,7 +44,9 @@ fn is_comment(text: &[u8]) -> bool {
 }
 
 /// An equals sign follows the first colon.
-fn is_pair(text: &[u8], colon: usize) -> bool {
+fn is_pair(text: &[u8], colon: usize) -> bool
+    requires { colon ≤ length text.now }
+{
     colon + 1 < text.len() && text[colon + 1] == b'='
 }
 

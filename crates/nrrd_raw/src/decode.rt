@@ -1,16 +1,24 @@
 //! Samples from bytes.
 
+ghost use Rattle.std.specs.Prelude.{◌≡◌, ℕ, ◌*◌, ◌≤◌, length, All};
+ghost use Rattle.iso_model.specs.GridFile.{IsRegularHeader};
+ghost use Rattle.nrrd_raw.specs.Shapes.{InRange};
+
 use crate::headers::Header;
 use byteorder::{BigEndian, ByteOrder, LittleEndian};
 use std::marker::PhantomData;
 
 /// How a group of bytes spells a sample.
 trait Form {
+    ghost WIDTH: { ℕ };
+
     /// The bytes of a sample.
     const WIDTH: usize;
 
     /// The sample that the bytes at the front of `group` spell.
-    fn sample(group: &[u8]) -> i64;
+    fn sample(group: &[u8]) -> i64
+        requires { WIDTH ≤ length group.now }
+        ensures range { InRange result };
 }
 
 struct Signed8;
@@ -26,6 +34,8 @@ struct Signed32<B: ByteOrder>(PhantomData<B>);
 struct Unsigned32<B: ByteOrder>(PhantomData<B>);
 
 impl Form for Signed8 {
+    ghost WIDTH = { 1 };
+
     const WIDTH: usize = 1;
 
     fn sample(group: &[u8]) -> i64 {
@@ -34,6 +44,8 @@ impl Form for Signed8 {
 }
 
 impl Form for Unsigned8 {
+    ghost WIDTH = { 1 };
+
     const WIDTH: usize = 1;
 
     fn sample(group: &[u8]) -> i64 {
@@ -42,6 +54,8 @@ impl Form for Unsigned8 {
 }
 
 impl<B: ByteOrder> Form for Signed16<B> {
+    ghost WIDTH = { 2 };
+
     const WIDTH: usize = 2;
 
     fn sample(group: &[u8]) -> i64 {
@@ -50,6 +64,8 @@ impl<B: ByteOrder> Form for Signed16<B> {
 }
 
 impl<B: ByteOrder> Form for Unsigned16<B> {
+    ghost WIDTH = { 2 };
+
     const WIDTH: usize = 2;
 
     fn sample(group: &[u8]) -> i64 {
@@ -58,6 +74,8 @@ impl<B: ByteOrder> Form for Unsigned16<B> {
 }
 
 impl<B: ByteOrder> Form for Signed32<B> {
+    ghost WIDTH = { 4 };
+
     const WIDTH: usize = 4;
 
     fn sample(group: &[u8]) -> i64 {
@@ -66,6 +84,8 @@ impl<B: ByteOrder> Form for Signed32<B> {
 }
 
 impl<B: ByteOrder> Form for Unsigned32<B> {
+    ghost WIDTH = { 4 };
+
     const WIDTH: usize = 4;
 
     fn sample(group: &[u8]) -> i64 {
@@ -74,7 +94,11 @@ impl<B: ByteOrder> Form for Unsigned32<B> {
 }
 
 /// Writes the samples that a piece of data bytes spells.
-pub(crate) fn write_samples(header: &Header, piece: &[u8], samples: &mut [i64]) {
+pub(crate) fn write_samples(header: &Header, piece: &[u8], samples: &mut [i64])
+    requires regular { IsRegularHeader header.now }
+    requires whole { length piece.now ≡ length samples.old * header.now.width }
+    ensures range { All InRange samples.new }
+{
     match (header.width, header.signed) {
         (1, true) => write_as::<Signed8>(piece, samples),
         (1, false) => write_as::<Unsigned8>(piece, samples),
@@ -89,7 +113,10 @@ pub(crate) fn write_samples(header: &Header, piece: &[u8], samples: &mut [i64]) 
     }
 }
 
-fn write_as<F: Form>(piece: &[u8], samples: &mut [i64]) {
+fn write_as<F: Form>(piece: &[u8], samples: &mut [i64])
+    requires { length piece.now ≡ length samples.old * F.WIDTH }
+    ensures range { All InRange samples.new }
+{
     for i in 0..samples.len() {
         samples[i] = F::sample(&piece[i * F::WIDTH..]);
     }

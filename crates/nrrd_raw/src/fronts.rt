@@ -1,5 +1,10 @@
 //! The bytes of a header, as a shelf gives them.
 
+ghost use Rattle.std.specs.Prelude.{◌≡◌, ◌≤◌, [], length, IfErr, OnOk, IsTrue, IsFalse};
+ghost use Rattle.std.specs.Io.KnownBytes.{Consumes};
+ghost use Rattle.nrrd_raw.specs.Faults.{BlamesShelf, is_header_fault, is_shelf_fault};
+ghost use Rattle.nrrd_raw.specs.Taken.{TakesAtMost};
+
 use crate::faults::GridFault;
 use crate::pieces::take_byte;
 use arrayvec::ArrayVec;
@@ -12,7 +17,17 @@ pub(crate) const HEADER_LIMIT: usize = 65536;
 pub(crate) fn take_front<S: Shelf>(
     shelf: &mut S,
     front: &mut ArrayVec<u8, HEADER_LIMIT>,
-) -> Result<(), GridFault> {
+) -> Result<(), GridFault>
+    requires { front.old.items ≡ [] }
+    ensures faults { S.faults shelf.old ≤ S.faults shelf.new }
+    ensures stay { S.files shelf.new ≡ S.files shelf.old }
+    ensures sound_stays { S.sound shelf.old → S.sound shelf.new }
+    ensures blames { IfErr result (BlamesShelf (S.faults shelf.old) (S.faults shelf.new)) }
+    ensures sound { S.sound shelf.old → IfErr result (λ fault. IsFalse (is_shelf_fault fault)) }
+    ensures causes { IfErr result (λ fault. IsTrue (is_header_fault fault)) }
+    ensures taken { TakesAtMost 65536 (S.rest shelf.old) (S.rest shelf.new) }
+    ensures came { OnOk result (Consumes (S.rest shelf.old) (S.rest shelf.new) front.new.items) }
+{
     while front.len() < HEADER_LIMIT {
         let Some(byte) = take_byte(shelf)? else {
             return Err(end_fault(front));
@@ -29,7 +44,10 @@ pub(crate) fn take_front<S: Shelf>(
 }
 
 /// The file ends with these bytes, and they hold no end of a header.
-fn end_fault(front: &[u8]) -> GridFault {
+fn end_fault(front: &[u8]) -> GridFault
+    ensures causes { IsTrue (is_header_fault result) }
+    ensures form { IsFalse (is_shelf_fault result) }
+{
     if has_first_line(front) {
         GridFault::HeaderEnd
     } else {

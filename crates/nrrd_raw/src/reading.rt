@@ -1,9 +1,10 @@
 //! Reading a grid file from a shelf.
 
-ghost use Rattle.std.specs.Prelude.{◌≡◌, ℕ, ◌+◌, ◌*◌, ◌≤◌, ◌<◌, ◌^◌, Result, Ok, Err, OnErr, IfOk, IfErr, OnOk, IsTrue, IsFalse, None, Some};
+ghost use Rattle.std.specs.Prelude.{◌≡◌, ℕ, ◌+◌, ◌*◌, ◌≤◌, ◌<◌, ◌^◌, Result, Ok, Err, OnErr, IfOk, IfErr, OnOk, IsTrue, IsFalse, None, Some, All, length, vec_len};
 ghost use Rattle.iso_model.specs.Values.{IsRegularGrid, product};
 ghost use Rattle.iso_model.specs.GridFile.{IsRegularHeader, sample_limit};
-ghost use Rattle.nrrd_raw.specs.Faults.{BlamesShelf, is_shelf_fault, is_header_fault, is_sample_fault};
+ghost use Rattle.nrrd_raw.specs.Faults.{BlamesShelf, is_shelf_fault, is_header_fault, is_sample_fault, is_data_fault};
+ghost use Rattle.nrrd_raw.specs.Shapes.{InRange};
 ghost use Rattle.nrrd_raw.specs.Taken.{TakesAtMost};
 
 use crate::decode::write_samples;
@@ -56,7 +57,7 @@ pub fn read_samples<S: Shelf>(alloc: Global, shelf: &mut S, header: &Header) -> 
     ensures sizes { IfOk result (λ grid. grid.sizes ≡ header.now.sizes) }
     ensures regular { IfOk result IsRegularGrid }
 {
-    let count = sample_count(&header.sizes);
+    let count = sample_count(header);
     if count > SAMPLE_LIMIT {
         return Err(GridFault::TooLarge(count));
     }
@@ -69,12 +70,18 @@ pub fn read_samples<S: Shelf>(alloc: Global, shelf: &mut S, header: &Header) -> 
 }
 
 /// The product of the sizes.
-fn sample_count(sizes: &[u64; 4]) -> u128 {
+fn sample_count(header: &Header) -> u128
+    requires { IsRegularHeader header.now }
+    ensures { result ≡ product header.now.sizes }
+{
+    let sizes = &header.sizes;
     area(sizes[0], sizes[1]) * area(sizes[2], sizes[3])
 }
 
 /// The product of two sizes.
-fn area(a: u64, b: u64) -> u128 {
+fn area(a: u64, b: u64) -> u128
+    ensures { result ≡ a * b }
+{
     u128::from(a) * u128::from(b)
 }
 
@@ -84,17 +91,30 @@ fn take_samples<S: Shelf>(
     shelf: &mut S,
     header: &Header,
     count: usize,
-) -> Result<Vec<i64>, GridFault> {
+) -> Result<Vec<i64>, GridFault>
+    requires regular { IsRegularHeader header.now }
+    requires few { count ≤ 2 ^ 27 }
+    ensures faults { S.faults shelf.old ≤ S.faults shelf.new }
+    ensures stay { S.files shelf.new ≡ S.files shelf.old }
+    ensures sound_stays { S.sound shelf.old → S.sound shelf.new }
+    ensures blames { IfErr result (BlamesShelf (S.faults shelf.old) (S.faults shelf.new)) }
+    ensures sound { S.sound shelf.old → IfErr result (λ fault. IsFalse (is_shelf_fault fault)) }
+    ensures causes { IfErr result (λ fault. IsTrue (is_data_fault fault)) }
+    ensures taken { TakesAtMost (count * header.now.width + 1) (S.rest shelf.old) (S.rest shelf.new) }
+    ensures count { IfOk result (λ samples. vec_len samples ≡ count) }
+    ensures range { IfOk result (λ samples. All InRange samples.items) }
+{
     let width = usize::from(header.width);
     let mut piece = [0u8; PIECE];
     let mut samples = Vec::new(alloc);
     while samples.len() < count {
-        let wanted = PIECE.min((count - samples.len()) * width);
+        let more = (PIECE / width).min(count - samples.len());
+        let wanted = more * width;
         let came = fill(shelf, &mut piece[..wanted])?;
         if came < wanted {
             return Err(GridFault::DataShort((samples.len() * width + came) as u64));
         }
-        append(&mut samples, header, &piece[..wanted], count)?;
+        append(&mut samples, header, &piece[..wanted], more, count)?;
     }
     if fill(shelf, &mut piece[..1])? > 0 {
         return Err(GridFault::Trailing);
@@ -102,15 +122,22 @@ fn take_samples<S: Shelf>(
     Ok(samples)
 }
 
-/// Appends the samples of a piece. There are to be `count` in the end.
+/// Appends the samples of a piece, so many. There are to be `count` in the end.
 fn append(
     samples: &mut Vec<i64>,
     header: &Header,
     piece: &[u8],
+    more: usize,
     count: usize,
-) -> Result<(), GridFault> {
+) -> Result<(), GridFault>
+    requires regular { IsRegularHeader header.now }
+    requires whole { length piece.now ≡ more * header.now.width }
+    requires room { vec_len samples.old + more ≤ count }
+    ensures memory { IfErr result (λ fault. fault ≡ GridFault.Memory) }
+    ensures len { OnOk result (vec_len samples.new ≡ vec_len samples.old + more) }
+    ensures range { All InRange samples.old.items → OnOk result (All InRange samples.new.items) }
+{
     let start = samples.len();
-    let more = piece.len() / usize::from(header.width);
     make_room(samples, more, count)?;
     if samples.resize(start + more, 0).is_err() {
         return Err(GridFault::Memory);
@@ -121,7 +148,12 @@ fn append(
 
 /// Makes room for `more` samples of `count` in the end: where there is none, twice the room, but no more than for all
 /// of them.
-fn make_room(samples: &mut Vec<i64>, more: usize, count: usize) -> Result<(), GridFault> {
+fn make_room(samples: &mut Vec<i64>, more: usize, count: usize) -> Result<(), GridFault>
+    requires { vec_len samples.old + more ≤ count }
+    ensures memory { IfErr result (λ fault. fault ≡ GridFault.Memory) }
+    ensures items { samples.new.items ≡ samples.old.items }
+    ensures len { vec_len samples.new ≡ vec_len samples.old }
+{
     let left = count - samples.len();
     let room = samples.capacity().max(more).min(left);
     if samples.capacity() - samples.len() < more && samples.reserve_exact(room).is_err() {

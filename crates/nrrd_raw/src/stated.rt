@@ -1,6 +1,9 @@
 //! What the lines of a header state.
 
-ghost use Rattle.std.specs.Prelude.{◌≤◌, length};
+ghost use Rattle.std.specs.Prelude.{◌≤◌, length, IfErr, IfOk, IsTrue, IsFalse};
+ghost use Rattle.std.specs.Option.{ForSome};
+ghost use Rattle.iso_model.specs.GridFile.{IsRegularHeader};
+ghost use Rattle.nrrd_raw.specs.Faults.{is_header_fault, is_shelf_fault};
 
 use crate::content::{Content, content_of};
 use crate::faults::GridFault;
@@ -14,6 +17,9 @@ use iso_model::Field;
 /// right first line, and end with an empty one.
 pub(crate) fn header_of(bytes: &[u8]) -> Result<Header, GridFault>
     requires { length bytes.now ≤ 65536 }
+    ensures causes { IfErr result (λ fault. IsTrue (is_header_fault fault)) }
+    ensures form { IfErr result (λ fault. IsFalse (is_shelf_fault fault)) }
+    ensures regular { IfOk result IsRegularHeader }
 {
     let mut stated = Stated::none();
     let mut number = 1u32;
@@ -40,6 +46,7 @@ struct Stated {
     sizes: Option<(Sizes, u32)>,
     raw: bool,
     big: Option<bool>,
+    ghost axes: { ForSome dimension (λ n. (2 ≤ n) × (n ≤ 4)) },
 }
 
 impl Stated {
@@ -53,7 +60,10 @@ impl Stated {
         }
     }
 
-    fn with_line(self, number: u32, text: &[u8]) -> Result<Stated, GridFault> {
+    fn with_line(self, number: u32, text: &[u8]) -> Result<Stated, GridFault>
+        ensures causes { IfErr result (λ fault. IsTrue (is_header_fault fault)) }
+        ensures form { IfErr result (λ fault. IsFalse (is_shelf_fault fault)) }
+    {
         match content_of(text) {
             Content::PassedOver => Ok(self),
             Content::Field(name, value) => self.with_field(number, name, value),
@@ -61,7 +71,10 @@ impl Stated {
         }
     }
 
-    fn with_field(self, number: u32, name: &[u8], value: &[u8]) -> Result<Stated, GridFault> {
+    fn with_field(self, number: u32, name: &[u8], value: &[u8]) -> Result<Stated, GridFault>
+        ensures causes { IfErr result (λ fault. IsTrue (is_header_fault fault)) }
+        ensures form { IfErr result (λ fault. IsFalse (is_shelf_fault fault)) }
+    {
         match key_of(name) {
             Key::Skip => {
                 if is_zero(value) {
@@ -92,7 +105,10 @@ impl Stated {
         }
     }
 
-    fn with_value(self, number: u32, field: Field, value: &[u8]) -> Result<Stated, GridFault> {
+    fn with_value(self, number: u32, field: Field, value: &[u8]) -> Result<Stated, GridFault>
+        ensures causes { IfErr result (λ fault. IsTrue (is_header_fault fault)) }
+        ensures form { IfErr result (λ fault. IsFalse (is_shelf_fault fault)) }
+    {
         let mut stated = self;
         match field {
             Field::SampleType => {
@@ -131,7 +147,11 @@ impl Stated {
 
     /// The header, or the first field that is missing, or the line of the sizes where they are not as many as the
     /// dimension.
-    fn header(self) -> Result<Header, GridFault> {
+    fn header(self) -> Result<Header, GridFault>
+        ensures causes { IfErr result (λ fault. IsTrue (is_header_fault fault)) }
+        ensures form { IfErr result (λ fault. IsFalse (is_shelf_fault fault)) }
+        ensures regular { IfOk result IsRegularHeader }
+    {
         let Some(sample) = self.sample else {
             return Err(GridFault::Missing(Field::SampleType));
         };

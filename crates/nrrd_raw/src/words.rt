@@ -1,5 +1,8 @@
 //! The words of a header, compared without regard to ASCII letter case.
 
+ghost use Rattle.std.specs.Prelude.{IsTrue};
+ghost use Rattle.nrrd_raw.specs.Shapes.{is_width};
+
 use iso_model::Field;
 
 /// Whether the text is the word.
@@ -12,6 +15,7 @@ pub(crate) fn is_word(text: &[u8], word: &[u8]) -> bool {
 pub(crate) struct Sample {
     pub width: u8,
     pub signed: bool,
+    ghost sized: { IsTrue (is_width width) },
 }
 
 /// The sample type that a value names.
