@@ -17,7 +17,7 @@ small a b c d p q r s =
     omega (arith, z)
 
 size_at : (sizes : List ℕ) (k : ℕ) → AreSizes sizes → k < length sizes → get_or sizes k 0 ≤ 4294967295
-size_at sizes k s h = (s k 0 (omega arith) h).1
+size_at sizes k s h = let p : (1 ≤ get_or sizes k 0) × (get_or sizes k 0 ≤ 4294967295) = s k 0 h in p.1
 
 pub counts : (dims : ℕ) (places : List ℕ) → HasShape dims places → 2 ≤ length (take dims places) → AreSizes (take dims places) → CountsPlaces (take dims places) places
 counts dims [] shape two sized = absurd (omega (arith, shape.four))
@@ -32,16 +32,17 @@ counts (suc (suc zero)) (a ∷ b ∷ c ∷ d ∷ []) shape two sized =
     let q : d ≡ 1 = (let e = shape.beyond in cc) in
     record {
       same = rw (p, q) (omega arith);
-      fits = small a b c d (size_at _ 0 sized (omega arith)) (size_at _ 1 sized (omega arith)) (omega arith) (omega arith)
+      fits = small a b c d (size_at (a ∷ b ∷ []) 0 sized (omega arith)) (size_at (a ∷ b ∷ []) 1 sized (omega arith)) (omega arith) (omega arith);
     }
 counts (suc (suc (suc zero))) (a ∷ b ∷ c ∷ d ∷ []) shape two sized =
     let q : d ≡ 1 = (let e = shape.beyond in cc) in
     record {
       same = rw q (omega arith);
-      fits = small a b c d (size_at _ 0 sized (omega arith)) (size_at _ 1 sized (omega arith)) (size_at _ 2 sized (omega arith)) (omega arith)
+      fits = small a b c d (size_at (a ∷ b ∷ c ∷ []) 0 sized (omega arith)) (size_at (a ∷ b ∷ c ∷ []) 1 sized (omega arith)) (size_at (a ∷ b ∷ c ∷ []) 2 sized (omega arith)) (omega arith);
     }
-counts (suc (suc (suc (suc n)))) (a ∷ b ∷ c ∷ d ∷ []) shape two sized =
+counts (suc (suc (suc (suc (suc n))))) (a ∷ b ∷ c ∷ d ∷ []) shape two sized = absurd (omega (arith, shape.few))
+counts (suc (suc (suc (suc zero)))) (a ∷ b ∷ c ∷ d ∷ []) shape two sized =
     record {
       same = omega arith;
-      fits = small a b c d (size_at _ 0 sized (omega arith)) (size_at _ 1 sized (omega arith)) (size_at _ 2 sized (omega arith)) (size_at _ 3 sized (omega arith))
+      fits = small a b c d (size_at (a ∷ b ∷ c ∷ d ∷ []) 0 sized (omega arith)) (size_at (a ∷ b ∷ c ∷ d ∷ []) 1 sized (omega arith)) (size_at (a ∷ b ∷ c ∷ d ∷ []) 2 sized (omega arith)) (size_at (a ∷ b ∷ c ∷ d ∷ []) 3 sized (omega arith));
     }

@@ -23,9 +23,12 @@ pub TakesAtMost-then : (m n most : ℕ) (a b c : Option (List ℕ)) → TakesAtM
 TakesAtMost-then m n most None b c p q l = tt
 TakesAtMost-then m n most (Some xs) None c p q l = absurd (cc)
 TakesAtMost-then m n most (Some xs) (Some ys) c p q l =
-    let same : ys ≡ drop p.0 xs = (let e = p.3 in cc) in
-    (p.0 + q.0, omega (arith, p.1, q.1), omega (arith, p.2, q.2, ap length same, length-drop p.0 xs),
-    q.3 ∙ ap Some (ap (drop q.0) same ∙ drop-drop q.0 p.0 xs))
+    let same : ys ≡ drop p.0 xs = (let e = p.3 in cc) in (
+      p.0 + q.0,
+      omega (arith, p.1, q.1),
+      omega (arith, p.2, q.2, ap length same, length-drop p.0 xs),
+      q.3 ∙ ap Some (ap (drop q.0) same ∙ drop-drop q.0 p.0 xs),
+    )
 
 -- a part of what may be taken
 pub TakesAtMost-more : (m most : ℕ) (a b : Option (List ℕ)) → TakesAtMost m a b → m ≤ most → TakesAtMost most a b

@@ -6,8 +6,6 @@
 //! first cause that its bytes have.
 #![tactic(auto)]
 
-
-
 mod content;
 mod decode;
 mod faults;

@@ -21,7 +21,11 @@ pub(crate) fn numeral_within(text: &[u8], low: u64, high: u64) -> Option<u64>
         }
         value = (value * 10 + u64::from(text[at] - b'0')).min(high + 1);
     }
-    if low <= value && value <= high { Some(value) } else { None }
+    if low <= value && value <= high {
+        Some(value)
+    } else {
+        None
+    }
 }
 
 /// A number with value 0.
@@ -62,7 +66,11 @@ pub(crate) fn sizes_of(value: &[u8]) -> Option<Sizes> {
         count += 1;
         at = word_from(value, end);
     }
-    if count == 0 { None } else { Some(Sizes { count, places }) }
+    if count == 0 {
+        None
+    } else {
+        Some(Sizes { count, places })
+    }
 }
 
 /// The place of the first byte from `from` on that is no blank, or the length where there is none.

@@ -42,7 +42,11 @@ pub fn read_header<S: Shelf>(shelf: &mut S) -> Result<Header, GridFault>
 }
 
 /// Reads the samples that stand behind a header, up to the end of the file.
-pub fn read_samples<S: Shelf>(alloc: Global, shelf: &mut S, header: &Header) -> Result<Grid, GridFault>
+pub fn read_samples<S: Shelf>(
+    alloc: Global,
+    shelf: &mut S,
+    header: &Header,
+) -> Result<Grid, GridFault>
     requires { IsRegularHeader header.now }
     ensures faults { S.faults shelf.old ≤ S.faults shelf.new }
     ensures stay { S.files shelf.new ≡ S.files shelf.old }

@@ -15,8 +15,11 @@ struct OneFile<'a> {
 
 impl Shelf for OneFile<'_> {
     ghost files = { λ _. None };
+
     ghost rest = { λ _. None };
+
     ghost faults = { λ _. 0 };
+
     ghost sound = { λ _. ⊥ };
 
     fn begin(&mut self, name: &str) -> Result<(), Failed> {
@@ -32,12 +35,14 @@ impl Shelf for OneFile<'_> {
     }
 
     ghost sound_tells = { λ _ none. absurd none };
+
     ghost rest_told = { λ _. (λ h. h, λ h. h) };
 }
 
 #[test]
 fn the_first_file_is_read(rt: HostRuntime) -> Result<(), Fail> {
-    let bytes = b"NRRD0001\ntype: uint8\ndimension: 2\nsizes: 2 2\nencoding: raw\n\n\x0a\x00\x00\x00";
+    let bytes =
+        b"NRRD0001\ntype: uint8\ndimension: 2\nsizes: 2 2\nencoding: raw\n\n\x0a\x00\x00\x00";
     let mut shelf = OneFile { bytes, step: 1 };
     let grid = read_grid(rt.alloc(), &mut shelf)?;
     assert_eq!(rt; grid.dims, 2);

@@ -21,22 +21,40 @@ pub(crate) struct Sample {
 /// The sample type that a value names.
 pub(crate) fn sample_of(value: &[u8]) -> Option<Sample> {
     if names_signed_8(value) {
-        return Some(Sample { width: 1, signed: true });
+        return Some(Sample {
+            width: 1,
+            signed: true,
+        });
     }
     if names_unsigned_8(value) {
-        return Some(Sample { width: 1, signed: false });
+        return Some(Sample {
+            width: 1,
+            signed: false,
+        });
     }
     if names_signed_16(value) {
-        return Some(Sample { width: 2, signed: true });
+        return Some(Sample {
+            width: 2,
+            signed: true,
+        });
     }
     if names_unsigned_16(value) {
-        return Some(Sample { width: 2, signed: false });
+        return Some(Sample {
+            width: 2,
+            signed: false,
+        });
     }
     if names_signed_32(value) {
-        return Some(Sample { width: 4, signed: true });
+        return Some(Sample {
+            width: 4,
+            signed: true,
+        });
     }
     if names_unsigned_32(value) {
-        return Some(Sample { width: 4, signed: false });
+        return Some(Sample {
+            width: 4,
+            signed: false,
+        });
     }
     None
 }

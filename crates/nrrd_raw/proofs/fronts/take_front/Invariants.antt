@@ -8,7 +8,7 @@ invariant-loop-shelf g l = record {
   stays : g.S.Shelf.files l.shelf ≡ g.S.Shelf.files l.initial.shelf;
   sound_stays : g.S.Shelf.sound l.initial.shelf → g.S.Shelf.sound l.shelf;
   short : length l.front.items ≤ 65536;
-  came : Consumes (g.S.Shelf.rest l.initial.shelf) (g.S.Shelf.rest l.shelf) l.front.items
+  came : Consumes (g.S.Shelf.rest l.initial.shelf) (g.S.Shelf.rest l.shelf) l.front.items;
 }
 
 abbrev pub decreases-loop-shelf : goal.decreases-loop-shelf

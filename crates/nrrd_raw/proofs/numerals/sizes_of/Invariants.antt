@@ -6,7 +6,7 @@ abbrev pub invariant-loop-at : goal.invariant-loop-at
 invariant-loop-at l = record {
   shape : HasShape l.count l.places;
   sized : AreSizes l.places;
-  within : l.at ≤ length l.value
+  within : l.at ≤ length l.value;
 }
 
 abbrev pub decreases-loop-at : goal.decreases-loop-at

@@ -14,5 +14,5 @@ loop-filled-preserved g c = record {
       let joined = take-filled c.loop-filled.filled (length c.loop-filled.buf - c.loop-filled.filled) c.in-Ok.count c.loop-filled.buf c.take.new.buf
       (omega arith) (omega (arith, c.in-Ok.ensures.bound)) in
       subst (λ (bs : List ℕ). Consumes (g.S.Shelf.rest c.args.shelf.now) (g.S.Shelf.rest c.take.new.self) bs) (sym joined)
-      (Consumes-trans _ _ _ _ _ c.loop-filled.invariant.came c.in-Ok.ensures.taken.0)
+      (Consumes-trans _ _ _ _ _ c.loop-filled.invariant.came c.in-Ok.ensures.taken.0);
 }

@@ -8,7 +8,7 @@ invariant-loop-filled g l = record {
   stays : g.S.Shelf.files l.shelf ≡ g.S.Shelf.files l.initial.shelf;
   sound_stays : g.S.Shelf.sound l.initial.shelf → g.S.Shelf.sound l.shelf;
   within : l.filled ≤ length l.buf;
-  came : Consumes (g.S.Shelf.rest l.initial.shelf) (g.S.Shelf.rest l.shelf) (take l.filled l.buf)
+  came : Consumes (g.S.Shelf.rest l.initial.shelf) (g.S.Shelf.rest l.shelf) (take l.filled l.buf);
 }
 
 abbrev pub decreases-loop-filled : goal.decreases-loop-filled

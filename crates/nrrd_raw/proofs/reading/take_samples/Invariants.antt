@@ -10,7 +10,7 @@ invariant-loop-samples g l = record {
   sound_stays : g.S.Shelf.sound l.initial.shelf → g.S.Shelf.sound l.shelf;
   few : vec_len l.samples ≤ l.count;
   range : All InRange l.samples.items;
-  taken : TakesAtMost (vec_len l.samples * l.width) (g.S.Shelf.rest l.initial.shelf) (g.S.Shelf.rest l.shelf)
+  taken : TakesAtMost (vec_len l.samples * l.width) (g.S.Shelf.rest l.initial.shelf) (g.S.Shelf.rest l.shelf);
 }
 
 abbrev pub decreases-loop-samples : goal.decreases-loop-samples
