@@ -1,5 +1,7 @@
 //! Files, and what they give.
 
+ghost use Rattle.std.specs.Prelude.{None};
+
 use crate::{Field, GridFault, Header, read_grid, read_header, read_samples};
 use iso_base::{Failed, Shelf};
 use std::alloc::Global;
