@@ -1,4 +1,4 @@
-use Rattle.std.proofs.Common.{◌≡◌, ◌≤◌, ◌-◌, ◌*◌, length, vec_len, All}
+use Rattle.std.proofs.Common.{◌≡◌, ◌≤◌, ◌-◌, ◌*◌, vec_len, All}
 use Rattle.nrrd_raw.specs.Taken.{TakesAtMost}
 use Rattle.nrrd_raw.specs.Shapes.{InRange}
 use Rattle.nrrd_raw.proofs.reading.take_samples.Given as goal
