@@ -1,0 +1,16 @@
+use Rattle.std.proofs.Common.{◌+◌, ◌^◌, inl, inr, arith, subst, sym, ap, Option, List, ℕ}
+use Rattle.std.proofs.lemmas.Bool.{cases_lt}
+use Rattle.iso_model.specs.Values.{product}
+use Rattle.nrrd_raw.specs.Taken.{TakesAtMost}
+use Rattle.nrrd_raw.proofs.TakenLaws.{TakesAtMost-grid, TakesAtMost-more}
+use Rattle.nrrd_raw.proofs.reading.read_grid.Goals as goal
+
+pub returns-clause-taken : goal.returns-clause-taken
+returns-clause-taken g c =
+    let header = c.in_ok-header.header in
+    elim (cases_lt (2 ^ 27) (product header.sizes)) [
+      | inl large ↦
+          subst (λ (now : Option (List ℕ)). TakesAtMost (2 ^ 29 + 65537) (g.S.Shelf.rest c.args.shelf.now) now) (sym (ap g.S.Shelf.rest (c.read_samples.ensures.untouched large)))
+          (TakesAtMost-more 65536 (2 ^ 29 + 65537) _ _ c.read_header.ensures.taken (omega arith))
+      | inr few ↦ TakesAtMost-grid (product header.sizes) header.width _ _ _ c.read_header.ensures.taken c.read_samples.ensures.taken few c.in_ok-header.ensures.regular.wide
+    ]

@@ -1,0 +1,28 @@
+//! Grids of samples from NRRD files with raw encoding.
+//!
+//! A file is a header of text lines and the samples' bytes behind it, in one file, as `unu save -e raw`, ITK and
+//! `dcm2niix` write it. The format is described at <https://teem.sourceforge.net/nrrd/format.html>; the profile that is
+//! read here takes grids of two to four axes with samples of 8, 16 or 32 bits, and refuses every other file by the
+//! first cause that its bytes have.
+#![tactic(auto)]
+
+mod content;
+mod decode;
+mod faults;
+mod fronts;
+mod grids;
+mod headers;
+mod lines;
+mod numerals;
+mod pieces;
+mod reading;
+mod stated;
+#[cfg(test)]
+mod tests;
+mod words;
+
+pub use faults::GridFault;
+pub use grids::Grid;
+pub use headers::Header;
+pub use iso_model::Field;
+pub use reading::{read_grid, read_header, read_samples};

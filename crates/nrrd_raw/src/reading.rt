@@ -1,0 +1,181 @@
+//! Reading a grid file from a shelf.
+
+ghost use Rattle.std.specs.Prelude.{◌≡◌, ℕ, ◌+◌, ◌*◌, ◌≤◌, ◌<◌, ◌^◌, Result, Ok, Err, OnErr, IfOk, IfErr, OnOk, IsTrue, IsFalse, None, Some, All, length, vec_len};
+ghost use Rattle.iso_model.specs.Values.{IsRegularGrid, product};
+ghost use Rattle.iso_model.specs.GridFile.{IsRegularHeader, sample_limit};
+ghost use Rattle.nrrd_raw.specs.Faults.{BlamesShelf, is_shelf_fault, is_header_fault, is_sample_fault, is_data_fault};
+ghost use Rattle.nrrd_raw.specs.Shapes.{InRange};
+ghost use Rattle.nrrd_raw.specs.Taken.{TakesAtMost};
+
+use crate::decode::write_samples;
+use crate::faults::GridFault;
+use crate::fronts::take_front;
+use crate::grids::Grid;
+use crate::headers::Header;
+use crate::pieces::fill;
+use crate::stated::header_of;
+use arrayvec::ArrayVec;
+use iso_base::Shelf;
+use std::alloc::Global;
+
+/// The most samples that a grid has.
+const SAMPLE_LIMIT: u128 = 1 << 27;
+
+/// The bytes that are taken at a time, a number of whole samples of each width.
+const PIECE: usize = 1 << 16;
+
+/// Reads the header at the front of the rest of the file that was begun. Takes its bytes one at a time, and none
+/// behind its end. Takes no memory.
+pub fn read_header<S: Shelf>(shelf: &mut S) -> Result<Header, GridFault>
+    ensures faults { S.faults shelf.old ≤ S.faults shelf.new }
+    ensures stay { S.files shelf.new ≡ S.files shelf.old }
+    ensures sound_stays { S.sound shelf.old → S.sound shelf.new }
+    ensures blames { IfErr result (BlamesShelf (S.faults shelf.old) (S.faults shelf.new)) }
+    ensures sound { S.sound shelf.old → IfErr result (λ fault. IsFalse (is_shelf_fault fault)) }
+    ensures causes { IfErr result (λ fault. IsTrue (is_header_fault fault)) }
+    ensures taken { TakesAtMost 65536 (S.rest shelf.old) (S.rest shelf.new) }
+    ensures regular { IfOk result IsRegularHeader }
+{
+    let mut front = ArrayVec::new();
+    take_front(shelf, &mut front)?;
+    header_of(&front)
+}
+
+/// Reads the samples that stand behind a header, up to the end of the file.
+pub fn read_samples<S: Shelf>(
+    alloc: Global,
+    shelf: &mut S,
+    header: &Header,
+) -> Result<Grid, GridFault>
+    requires { IsRegularHeader header.now }
+    ensures faults { S.faults shelf.old ≤ S.faults shelf.new }
+    ensures stay { S.files shelf.new ≡ S.files shelf.old }
+    ensures sound_stays { S.sound shelf.old → S.sound shelf.new }
+    ensures blames { IfErr result (BlamesShelf (S.faults shelf.old) (S.faults shelf.new)) }
+    ensures sound { S.sound shelf.old → IfErr result (λ fault. IsFalse (is_shelf_fault fault)) }
+    ensures causes { IfErr result (λ fault. IsTrue (is_sample_fault fault)) }
+    ensures large_alone { sample_limit < product header.now.sizes → result ≡ Err (GridFault.TooLarge (product header.now.sizes)) }
+    ensures large_only { (count : ℕ) → result ≡ Err (GridFault.TooLarge count) → (sample_limit < product header.now.sizes) × (count ≡ product header.now.sizes) }
+    ensures untouched { sample_limit < product header.now.sizes → shelf.new ≡ shelf.old }
+    ensures taken { TakesAtMost (product header.now.sizes * header.now.width + 1) (S.rest shelf.old) (S.rest shelf.new) }
+    ensures sizes { IfOk result (λ grid. grid.sizes ≡ header.now.sizes) }
+    ensures regular { IfOk result IsRegularGrid }
+{
+    let count = sample_count(header);
+    if count > SAMPLE_LIMIT {
+        return Err(GridFault::TooLarge(count));
+    }
+    let samples = take_samples(alloc, shelf, header, count as usize)?;
+    Ok(Grid {
+        dims: header.dims,
+        sizes: header.sizes,
+        samples,
+    })
+}
+
+/// The product of the sizes.
+fn sample_count(header: &Header) -> u128
+    requires { IsRegularHeader header.now }
+    ensures { result ≡ product header.now.sizes }
+{
+    let sizes = &header.sizes;
+    area(sizes[0], sizes[1]) * area(sizes[2], sizes[3])
+}
+
+/// The product of two sizes.
+fn area(a: u64, b: u64) -> u128
+    ensures { result ≡ a * b }
+{
+    u128::from(a) * u128::from(b)
+}
+
+/// Takes so many samples, piece by piece, and sees that the file ends behind them.
+fn take_samples<S: Shelf>(
+    alloc: Global,
+    shelf: &mut S,
+    header: &Header,
+    count: usize,
+) -> Result<Vec<i64>, GridFault>
+    requires regular { IsRegularHeader header.now }
+    requires few { count ≤ 2 ^ 27 }
+    ensures faults { S.faults shelf.old ≤ S.faults shelf.new }
+    ensures stay { S.files shelf.new ≡ S.files shelf.old }
+    ensures sound_stays { S.sound shelf.old → S.sound shelf.new }
+    ensures blames { IfErr result (BlamesShelf (S.faults shelf.old) (S.faults shelf.new)) }
+    ensures sound { S.sound shelf.old → IfErr result (λ fault. IsFalse (is_shelf_fault fault)) }
+    ensures causes { IfErr result (λ fault. IsTrue (is_data_fault fault)) }
+    ensures taken { TakesAtMost (count * header.now.width + 1) (S.rest shelf.old) (S.rest shelf.new) }
+    ensures count { IfOk result (λ samples. vec_len samples ≡ count) }
+    ensures range { IfOk result (λ samples. All InRange samples.items) }
+{
+    let width = usize::from(header.width);
+    let mut piece = [0u8; PIECE];
+    let mut samples = Vec::new(alloc);
+    while samples.len() < count {
+        let more = (PIECE / width).min(count - samples.len());
+        let wanted = more * width;
+        let came = fill(shelf, &mut piece[..wanted])?;
+        if came < wanted {
+            return Err(GridFault::DataShort((samples.len() * width + came) as u64));
+        }
+        append(&mut samples, header, &piece[..wanted], more, count)?;
+    }
+    if fill(shelf, &mut piece[..1])? > 0 {
+        return Err(GridFault::Trailing);
+    }
+    Ok(samples)
+}
+
+/// Appends the samples of a piece, so many. There are to be `count` in the end.
+fn append(
+    samples: &mut Vec<i64>,
+    header: &Header,
+    piece: &[u8],
+    more: usize,
+    count: usize,
+) -> Result<(), GridFault>
+    requires regular { IsRegularHeader header.now }
+    requires whole { length piece.now ≡ more * header.now.width }
+    requires room { vec_len samples.old + more ≤ count }
+    ensures memory { IfErr result (λ fault. fault ≡ GridFault.Memory) }
+    ensures len { OnOk result (vec_len samples.new ≡ vec_len samples.old + more) }
+    ensures range { All InRange samples.old.items → OnOk result (All InRange samples.new.items) }
+{
+    let start = samples.len();
+    make_room(samples, more, count)?;
+    if samples.resize(start + more, 0).is_err() {
+        return Err(GridFault::Memory);
+    }
+    write_samples(header, piece, &mut samples[start..]);
+    Ok(())
+}
+
+/// Makes room for `more` samples of `count` in the end: where there is none, twice the room, but no more than for all
+/// of them.
+fn make_room(samples: &mut Vec<i64>, more: usize, count: usize) -> Result<(), GridFault>
+    requires { vec_len samples.old + more ≤ count }
+    ensures memory { IfErr result (λ fault. fault ≡ GridFault.Memory) }
+    ensures items { samples.new.items ≡ samples.old.items }
+    ensures len { vec_len samples.new ≡ vec_len samples.old }
+{
+    let left = count - samples.len();
+    let room = samples.capacity().max(more).min(left);
+    if samples.capacity() - samples.len() < more && samples.reserve_exact(room).is_err() {
+        return Err(GridFault::Memory);
+    }
+    Ok(())
+}
+
+/// Reads a whole grid file that was begun: its header, and the samples behind it.
+pub fn read_grid<S: Shelf>(alloc: Global, shelf: &mut S) -> Result<Grid, GridFault>
+    ensures faults { S.faults shelf.old ≤ S.faults shelf.new }
+    ensures stay { S.files shelf.new ≡ S.files shelf.old }
+    ensures sound_stays { S.sound shelf.old → S.sound shelf.new }
+    ensures blames { IfErr result (BlamesShelf (S.faults shelf.old) (S.faults shelf.new)) }
+    ensures sound { S.sound shelf.old → IfErr result (λ fault. IsFalse (is_shelf_fault fault)) }
+    ensures taken { TakesAtMost (2 ^ 29 + 65537) (S.rest shelf.old) (S.rest shelf.new) }
+    ensures regular { IfOk result IsRegularGrid }
+{
+    let header = read_header(shelf)?;
+    read_samples(alloc, shelf, &header)
+}

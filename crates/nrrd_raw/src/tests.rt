@@ -1,0 +1,418 @@
+//! Files, and what they give.
+
+ghost use Rattle.std.specs.Prelude.{None};
+
+use crate::{Field, GridFault, Header, read_grid, read_header, read_samples};
+use iso_base::{Failed, Shelf};
+use std::alloc::Global;
+use std::process::Abort;
+use std::test::Fail;
+
+/// One file, which is given in parts of at most `step` bytes.
+#[derive(Drop)]
+struct OneFile<'a> {
+    bytes: &'a [u8],
+    step: usize,
+}
+
+impl Shelf for OneFile<'_> {
+    ghost files = { λ _. None };
+
+    ghost rest = { λ _. None };
+
+    ghost faults = { λ _. 0 };
+
+    ghost sound = { λ _. ⊥ };
+
+    fn begin(&mut self, _: &str) -> Result<(), Failed> {
+        Ok(())
+    }
+
+    fn take(&mut self, buf: &mut [u8]) -> Result<usize, Failed> {
+        let count = self.step.min(self.bytes.len()).min(buf.len());
+        buf[..count].copy_from_slice(&self.bytes[..count]);
+        self.bytes = &self.bytes[count..];
+        Ok(count)
+    }
+
+    ghost sound_tells = { λ _ none. absurd none };
+
+    ghost rest_told = { λ _. (λ h. h, λ h. h) };
+}
+
+/// The steps in which each file is given.
+const STEPS: [usize; 2] = [1, 1 << 20];
+
+fn refusal(alloc: Global, bytes: &[u8], step: usize) -> Option<GridFault> {
+    match read_grid(alloc, &mut OneFile { bytes, step }) {
+        Ok(_) => None,
+        Err(fault) => Some(fault),
+    }
+}
+
+/// Each text gives the fault beside it.
+fn all_refused(
+    rt: &impl Abort,
+    alloc: Global,
+    front: &str,
+    cases: &[(&str, GridFault)],
+) -> Result<(), Fail> {
+    for (lines, fault) in cases {
+        let text = format!(in alloc; "{front}{lines}")?;
+        for step in STEPS {
+            assert_eq!(rt;
+                refusal(alloc, text.as_bytes(), step),
+                Some(*fault),
+                "{text}"
+            );
+        }
+    }
+    Ok(())
+}
+
+#[test]
+fn the_first_line_is_judged_byte_by_byte(rt: HostRuntime) -> Result<(), Fail> {
+    let cases = [
+        ("", GridFault::Magic),
+        ("NRRD0001", GridFault::Magic),
+        ("NRRD0001\r", GridFault::Magic),
+        ("NRRD0001\r\r\n\n", GridFault::Magic),
+        ("NRRD0001 \n\n", GridFault::Magic),
+        ("NRRD0000\n\n", GridFault::Magic),
+        ("NRRD0006\n\n", GridFault::Magic),
+        ("nrrd0001\n\n", GridFault::Magic),
+        ("NRRD0005\n", GridFault::HeaderEnd),
+        ("NRRD0001\r\ntype: uint8\n", GridFault::HeaderEnd),
+        ("NRRD0002\n\n", GridFault::Missing(Field::SampleType)),
+    ];
+    all_refused(&rt, rt.alloc(), "", &cases)
+}
+
+#[test]
+fn the_first_line_with_a_cause_is_answered(rt: HostRuntime) -> Result<(), Fail> {
+    let cases = [
+        (
+            "dimension: 2\nsizes: 2 2\nencoding: raw\n\n",
+            GridFault::Missing(Field::SampleType),
+        ),
+        (
+            "type: uint8\nsizes: 2 2\nencoding: raw\n\n",
+            GridFault::Missing(Field::Dimension),
+        ),
+        (
+            "type: uint8\ndimension: 2\nencoding: raw\n\n",
+            GridFault::Missing(Field::Sizes),
+        ),
+        (
+            "type: uint8\ndimension: 2\nsizes: 2 2\n\n",
+            GridFault::Missing(Field::Encoding),
+        ),
+        (
+            "type: short\ndimension: 2\nsizes: 2 2\nencoding: raw\n\n",
+            GridFault::Missing(Field::Endian),
+        ),
+        (
+            "type: uint8\ndimension: 3\nsizes: 2 2\nencoding: raw\n\n",
+            GridFault::Sizes(4),
+        ),
+        (
+            "sizes: 2 2 2\ntype: uint8\ndimension: 2\nencoding: raw\n\n",
+            GridFault::Sizes(2),
+        ),
+        ("no colon\nencoding: gzip\n\n", GridFault::Line(2)),
+        ("encoding: gzip\nno colon\n\n", GridFault::Encoding(2)),
+        ("type: uint8\n: no name\n\n", GridFault::Line(3)),
+        (" # x\n\n", GridFault::Line(2)),
+        ("\r\r\n\n", GridFault::Line(2)),
+    ];
+    all_refused(&rt, rt.alloc(), "NRRD0001\n", &cases)
+}
+
+#[test]
+fn fields_have_causes_of_their_own(rt: HostRuntime) -> Result<(), Fail> {
+    let cases = [
+        ("encoding: gzip\n\n", GridFault::Encoding(5)),
+        ("encoding: raw\r\r\n\n", GridFault::Encoding(5)),
+        ("encoding: a:=b\n\n", GridFault::Encoding(5)),
+        (
+            "endian: big\nendian: big\nencoding: raw\n\n",
+            GridFault::Repeated(6),
+        ),
+        ("TYPE: no type\n\n", GridFault::Repeated(5)),
+        ("endian: middle\nencoding: raw\n\n", GridFault::Endian(5)),
+        (
+            "encoding: raw\ndata file: x.raw\n\n",
+            GridFault::Detached(6),
+        ),
+        ("encoding: raw\ndatafile:\n\n", GridFault::Detached(6)),
+        ("encoding: raw\nbyte skip: -1\n\n", GridFault::Skip(6)),
+        ("encoding: raw\nlineskip: 1\n\n", GridFault::Skip(6)),
+        ("encoding: raw\nbyteskip:\n\n", GridFault::Skip(6)),
+    ];
+    all_refused(
+        &rt,
+        rt.alloc(),
+        "NRRD0001\ntype: uint8\ndimension: 2\nsizes: 2 2\n",
+        &cases,
+    )
+}
+
+#[test]
+fn values_that_are_not_taken(rt: HostRuntime) -> Result<(), Fail> {
+    let cases = [
+        ("type: char\n\n", GridFault::SampleType(2)),
+        ("type: float\n\n", GridFault::SampleType(2)),
+        ("type: unsigned  char\n\n", GridFault::SampleType(2)),
+        ("type: unsigned\tchar\n\n", GridFault::SampleType(2)),
+        ("dimension: 1\n\n", GridFault::Dimension(2)),
+        ("dimension: 5\n\n", GridFault::Dimension(2)),
+        (
+            "dimension: 18446744073709551618\n\n",
+            GridFault::Dimension(2),
+        ),
+        ("dimension: +2\n\n", GridFault::Dimension(2)),
+        ("sizes: \n\n", GridFault::Sizes(2)),
+        ("sizes: 1 2 3 4 5\n\n", GridFault::Sizes(2)),
+        ("sizes: 2 0\n\n", GridFault::Sizes(2)),
+        ("sizes: 2 4294967296\n\n", GridFault::Sizes(2)),
+        ("sizes: 2,2\n\n", GridFault::Sizes(2)),
+    ];
+    all_refused(&rt, rt.alloc(), "NRRD0001\n", &cases)
+}
+
+#[test]
+fn samples_are_counted(rt: HostRuntime) -> Result<(), Fail> {
+    let cases = [
+        ("dimension: 2\nsizes: 2 2\n\nabc", GridFault::DataShort(3)),
+        ("dimension: 2\nsizes: 2 2\n\nabcde", GridFault::Trailing),
+        (
+            "dimension: 2\nsizes: 16384 16384\n\n",
+            GridFault::TooLarge(268435456),
+        ),
+        (
+            "dimension: 2\nsizes: 16384 8192\n\n",
+            GridFault::DataShort(0),
+        ),
+        (
+            "dimension: 4\nsizes: 4294967295 4294967295 4294967295 4294967295\n\n",
+            GridFault::TooLarge(340282366604025813516997721482669850625),
+        ),
+    ];
+    all_refused(
+        &rt,
+        rt.alloc(),
+        "NRRD0001\ntype: uint8\nencoding: raw\n",
+        &cases,
+    )
+}
+
+/// Each text gives a grid of these samples.
+fn all_read(rt: &impl Abort, alloc: Global, cases: &[(&str, &[u8], &[i64])]) -> Result<(), Fail> {
+    for (lines, data, samples) in cases {
+        let mut bytes = Vec::from_slice(alloc, lines.as_bytes())?;
+        bytes.extend_from_slice(data)?;
+        for step in STEPS {
+            let shelf = &mut OneFile {
+                bytes: &bytes,
+                step,
+            };
+            let grid = read_grid(alloc, shelf)?;
+            assert_eq!(rt; grid.samples.as_slice(), *samples, "{lines}");
+        }
+    }
+    Ok(())
+}
+
+const SCANNED: &str = "NRRD0004\r
+# Complete NRRD file format specification at:\r
+# http://teem.sourceforge.net/nrrd/format.html\r
+content: sample\r
+type: unsigned char\r
+dimension: 3\r
+space: left-posterior-superior\r
+sizes: 2 2 2\r
+space directions: (1,0,0) (0,1,0) (0,0,1)\r
+kinds: domain domain domain\r
+endian: little\r
+encoding: raw\r
+space origin: (0,0,0)\r
+operator:=first trial\r
+\r
+";
+
+#[test]
+fn headers_of_many_spellings_are_read(rt: HostRuntime) -> Result<(), Fail> {
+    let front = "NRRD0001\ntype: uint8\ndimension: 2\nsizes: 1 2\nencoding: raw\n\n";
+    let cases: [(&str, &[u8], &[i64]); 5] = [
+        (front, &[10, 255], &[10, 255]),
+        (
+            SCANNED,
+            &[10, 0, 0, 0, 0, 0, 0, 200],
+            &[10, 0, 0, 0, 0, 0, 0, 200],
+        ),
+        (
+            "NRRD0005\nTYPE:\tUINT8 \nSizes:  2   1\t\nDimension:0002\nENCODING: Raw\nEndian: BIG\n\n",
+            &[1, 2],
+            &[1, 2],
+        ),
+        (
+            "NRRD0001\n:=\na:=b:c\n # x: y\ncontent:\nline  skip: 9\nline skip: 0\nlineskip: 00\nline skip: 0\ntype: uint8\ndimension: 2\nsizes: 1 1\nencoding: raw\n\n",
+            &[7],
+            &[7],
+        ),
+        (
+            "NRRD0001\ntype: int8\ndimension: 2\nsizes: 1 2\nencoding: raw\n\n",
+            &[10, 255],
+            &[10, -1],
+        ),
+    ];
+    all_read(&rt, rt.alloc(), &cases)
+}
+
+#[test]
+fn samples_are_read_in_both_orders(rt: HostRuntime) -> Result<(), Fail> {
+    let cases: [(&str, &[u8], &[i64]); 8] = [
+        (
+            "type: short\nendian: big\n\n",
+            b"\xff\xfb\x01\x02",
+            &[-5, 258],
+        ),
+        (
+            "type: short\nendian: little\n\n",
+            b"\xfb\xff\x01\x02",
+            &[-5, 513],
+        ),
+        (
+            "type: ushort\nendian: big\n\n",
+            b"\xff\xfb\x01\x02",
+            &[65531, 258],
+        ),
+        (
+            "type: ushort\nendian: little\n\n",
+            b"\xfb\xff\x01\x02",
+            &[65531, 513],
+        ),
+        (
+            "type: int\nendian: big\n\n",
+            b"\x80\x00\x00\x00\x01\x02\x03\x04",
+            &[-2147483648, 16909060],
+        ),
+        (
+            "type: int\nendian: little\n\n",
+            b"\xfe\xff\xff\xff\x01\x02\x03\x04",
+            &[-2, 67305985],
+        ),
+        (
+            "type: uint\nendian: big\n\n",
+            b"\x80\x00\x00\x00\x01\x02\x03\x04",
+            &[2147483648, 16909060],
+        ),
+        (
+            "type: uint\nendian: little\n\n",
+            b"\xfe\xff\xff\xff\x01\x02\x03\x04",
+            &[4294967294, 67305985],
+        ),
+    ];
+    for (lines, data, samples) in cases {
+        let text = format!(in rt.alloc();
+            "NRRD0001\ndimension: 2\nsizes: 2 1\nencoding: raw\n{lines}"
+        )?;
+        all_read(&rt, rt.alloc(), &[(text.as_str(), data, samples)])?;
+    }
+    Ok(())
+}
+
+#[test]
+fn each_sample_name_is_read(rt: HostRuntime) -> Result<(), Fail> {
+    let names = [
+        ("signed char", 1, true),
+        ("int8", 1, true),
+        ("int8_t", 1, true),
+        ("uchar", 1, false),
+        ("unsigned char", 1, false),
+        ("uint8", 1, false),
+        ("uint8_t", 1, false),
+        ("short", 2, true),
+        ("short int", 2, true),
+        ("signed short", 2, true),
+        ("signed short int", 2, true),
+        ("int16", 2, true),
+        ("int16_t", 2, true),
+        ("ushort", 2, false),
+        ("unsigned short", 2, false),
+        ("unsigned short int", 2, false),
+        ("uint16", 2, false),
+        ("uint16_t", 2, false),
+        ("int", 4, true),
+        ("signed int", 4, true),
+        ("int32", 4, true),
+        ("int32_t", 4, true),
+        ("uint", 4, false),
+        ("unsigned int", 4, false),
+        ("uint32", 4, false),
+        ("uint32_t", 4, false),
+    ];
+    for (name, width, signed) in names {
+        let text = format!(in rt.alloc();
+            "NRRD0003\ntype: {name}\ndimension: 3\nsizes: 5 6 7\nendian: big\nencoding: raw\n\nrest"
+        )?;
+        let mut shelf = OneFile {
+            bytes: text.as_bytes(),
+            step: 1,
+        };
+        let header = Header {
+            dims: 3,
+            sizes: [5, 6, 7, 1],
+            width,
+            signed,
+            big: width > 1,
+        };
+        assert_eq!(rt; read_header(&mut shelf), Ok(header), "{name}");
+        assert_eq!(rt; shelf.bytes, b"rest".as_slice());
+    }
+    Ok(())
+}
+
+#[test]
+fn a_header_has_at_most_65_536_bytes(rt: HostRuntime) -> Result<(), Fail> {
+    let cases = [
+        (65473, "\n\nx", None),
+        (65474, "\n\nx", None),
+        (65475, "\n\nx", Some(GridFault::HeaderLong)),
+        (65475, "", Some(GridFault::HeaderEnd)),
+        (65476, "", Some(GridFault::HeaderLong)),
+    ];
+    for (fill, end, fault) in cases {
+        let mut bytes = Vec::from_slice(
+            rt.alloc(),
+            b"NRRD0001\ntype: uint8\ndimension: 2\nsizes: 1 1\nencoding: raw\n#",
+        )?;
+        let comment = vec![in rt.alloc(); b'c'; fill]?;
+        bytes.extend_from_slice(&comment)?;
+        bytes.extend_from_slice(end.as_bytes())?;
+        for step in STEPS {
+            assert_eq!(rt; refusal(rt.alloc(), &bytes, step), fault, "{fill}");
+        }
+    }
+    Ok(())
+}
+
+#[test]
+fn samples_are_read_behind_a_header(rt: HostRuntime) -> Result<(), Fail> {
+    let header = Header {
+        dims: 2,
+        sizes: [1, 3, 1, 1],
+        width: 1,
+        signed: true,
+        big: false,
+    };
+    let mut shelf = OneFile {
+        bytes: b"\x00\x7f\x80",
+        step: 2,
+    };
+    let grid = read_samples(rt.alloc(), &mut shelf, &header)?;
+    assert_eq!(rt; grid.dims, 2);
+    assert_eq!(rt; grid.sizes, [1, 3, 1, 1]);
+    assert_eq!(rt; grid.samples.as_slice(), [0, 127, -128].as_slice());
+    Ok(())
+}
