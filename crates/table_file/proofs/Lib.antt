@@ -1,0 +1,6 @@
+mod Rows
+mod Chunks
+mod EntryLaws
+mod HeadLaws
+mod Progress
+mod RefusalLaws
