@@ -4,3 +4,5 @@ mod EntryLaws
 mod HeadLaws
 mod Progress
 mod RefusalLaws
+mod WritingLaws
+mod CheckLaws

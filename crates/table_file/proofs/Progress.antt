@@ -74,7 +74,7 @@ pub record GoesOnAs (kind : Kind) (d : ℕ) (es : List (List (List ℕ))) (rest 
   pub labels : length es + length further ≡ label_count kind d
   pub on : rest ++ more ≡ flat_map entry_bytes further
 
-labels_same : (kind : Kind) (d : ℕ) (es : List (List (List ℕ))) (u : Table) (x y : List ℕ) → IsTable u → ReadsOn kind d es u x y → length u.entries ≡ label_count kind d
+pub labels_same : (kind : Kind) (d : ℕ) (es : List (List (List ℕ))) (u : Table) (x y : List ℕ) → IsTable u → ReadsOn kind d es u x y → length u.entries ≡ label_count kind d
 labels_same kind d es u x y is r =
     is.whole ∙ subst (λ (k : Kind). label_count k u.dimension ≡ label_count kind d) r.same_kind_of (subst (λ (n : ℕ). label_count kind n ≡ label_count kind d) r.same_dimension refl)
 

@@ -10,7 +10,7 @@ use iso_model::Kind;
 use std::alloc::Global;
 
 /// The greatest number of tuples of an entry.
-const MOST_TUPLES: usize = 1 << 28;
+pub(crate) const MOST_TUPLES: usize = 1 << 28;
 
 /// The number of tuples with which the bytes begin, four bytes with the high one first.
 fn count_of(bytes: &[u8]) -> Option<usize>
@@ -31,7 +31,7 @@ fn count_of(bytes: &[u8]) -> Option<usize>
 }
 
 /// The first of the bytes that is not below `edges`.
-fn first_wrong(bytes: &[u8], edges: u8) -> Option<usize>
+pub(crate) fn first_wrong(bytes: &[u8], edges: u8) -> Option<usize>
     ensures inside { IfSome result (λ place. place < length bytes.now) }
     ensures before { IfSome result (λ place. All (λ e. e < edges) (take place bytes.now)) }
     ensures wrong { IfSome result (λ place. edges ≤ slice_index bytes.now place) }

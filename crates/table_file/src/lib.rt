@@ -5,6 +5,7 @@
 //! table, and finds no table in any others.
 #![tactic(auto)]
 
+mod checks;
 mod entries;
 mod faults;
 mod heads;
@@ -12,8 +13,10 @@ mod reading;
 mod tables;
 #[cfg(test)]
 mod tests;
+mod writing;
 
 pub use faults::TableFault;
 pub use iso_model::Kind;
 pub use reading::decode;
 pub use tables::{AnyTable, Table};
+pub use writing::encode;

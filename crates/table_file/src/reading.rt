@@ -1,6 +1,7 @@
 //! Reading the bytes of a table.
 
 ghost use Rattle.std.specs.Prelude.{◌≡◌, ◌≤◌, length, IfOk, IfErr, IsOkUnless};
+ghost use Rattle.iso_model.specs.Tables.{Table as TableValue};
 ghost use Rattle.iso_model.specs.TableFile.{SpellsTable, IsWholeTable, table_limit};
 ghost use Rattle.table_file.specs.Heads.{HasHead};
 ghost use Rattle.table_file.specs.Reading.{table_in, HasOwnDimension};
@@ -20,6 +21,7 @@ const HEAD: usize = 16;
 pub fn decode(alloc: Global, bytes: &[u8]) -> Result<AnyTable, TableFault>
     requires { length bytes.now ≤ table_limit }
     ensures table { IfOk result (λ table. SpellsTable bytes.now (table_in table)) }
+    ensures same { (t : TableValue) → SpellsTable bytes.now t → IfOk result (λ table. table_in table ≡ t) }
     ensures dimension { IfOk result HasOwnDimension }
     ensures whole { IsWholeTable bytes.now → IsOkUnless result TableFault.Memory }
 {

@@ -1,9 +1,10 @@
 //! Tables in memory.
 
-ghost use Rattle.std.specs.Prelude.{◌≡◌, ◌<◌, length, map};
+ghost use Rattle.std.specs.Prelude.{◌≡◌, ◌<◌, length, map, IfOk, IfErr, IsOk};
 ghost use Rattle.iso_model.specs.Cells.{label_count};
 ghost use Rattle.iso_model.specs.Tables.{IsTable, IsEntry, entry_of};
 
+use crate::checks::{are_entries, has_dimension};
 use iso_model::Kind;
 use std::marker::Model;
 
@@ -50,6 +51,8 @@ impl<const D: usize> Table<D> {
     pub fn labels(&self) -> u32
         ensures entries { result ≡ length self.now.entries }
         ensures labels { result ≡ label_count self.now.kind D }
+        ensures dimension { self.now.dimension ≡ D }
+        ensures table { IsTable self.now }
     {
         self.entries.len() as u32
     }
@@ -63,7 +66,24 @@ impl<const D: usize> Table<D> {
         self.entries[label as usize].as_slice()
     }
 
-    /// The table of these entries.
+    /// The table of these entries, one for each label from 0 on. It hands them back where they break what a table
+    /// always holds, or no cells of this shape and dimension have tables.
+    pub fn from_entries(
+        kind: Kind,
+        entries: Vec<Vec<[u8; D]>>,
+    ) -> Result<Table<D>, Vec<Vec<[u8; D]>>>
+        ensures table { IfOk result (λ table. table ≡ record { kind = kind; dimension = D; entries = map (λ entry. entry.items) entries.entry.items }) }
+        ensures handed_back { IfErr result (λ back. back ≡ entries.entry) }
+        ensures accepted { IsTable (record { kind = kind; dimension = D; entries = map (λ entry. entry.items) entries.entry.items }) → IsOk result }
+    {
+        if has_dimension(kind, D) && are_entries(kind, &entries) {
+            Ok(Table { kind, entries })
+        } else {
+            Err(entries)
+        }
+    }
+
+    /// The table of entries that make one.
     pub(crate) fn assemble(kind: Kind, entries: Vec<Vec<[u8; D]>>) -> Table<D>
         requires { IsTable (record { kind = kind; dimension = D; entries = map (λ entry. entry.items) entries.items }) }
         ensures { result ≡ record { kind = kind; dimension = D; entries = map (λ entry. entry.items) entries.entry.items } }

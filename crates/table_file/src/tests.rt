@@ -1,6 +1,6 @@
 //! Tables and spoiled ones.
 
-use crate::{AnyTable, Kind, TableFault, decode};
+use crate::{AnyTable, Kind, Table, TableFault, decode, encode};
 use std::alloc::Global;
 use std::test::Fail;
 
@@ -165,4 +165,50 @@ fn names_each_byte_of_a_head(rt: HostRuntime) {
             );
         }
     }
+}
+
+#[test]
+fn writes_what_was_read(rt: HostRuntime) -> Result<(), Fail> {
+    let AnyTable::T2(square) = decode(rt.alloc(), &SQUARE[..112])? else {
+        return Err("no table of two dimensions".into());
+    };
+    let bytes = encode(rt.alloc(), &square).map_err(|_| "memory")?;
+    assert_eq!(rt; bytes.as_slice(), &SQUARE[..112]);
+    let AnyTable::T2(triangle) = decode(rt.alloc(), &TRIANGLE)? else {
+        return Err("no table of two dimensions".into());
+    };
+    let bytes = encode(rt.alloc(), &triangle).map_err(|_| "memory")?;
+    assert_eq!(rt; bytes.as_slice(), TRIANGLE.as_slice());
+    Ok(())
+}
+
+#[test]
+fn takes_the_entries_of_tables(rt: HostRuntime) -> Result<(), Fail> {
+    // The shape of the cells, the number of entries, a number in each of them, and whether they make a table.
+    let cases = [
+        (Kind::Cube, 16, 3, true),
+        (Kind::Cube, 16, 4, false),
+        (Kind::Cube, 15, 3, false),
+        (Kind::Simplex, 8, 2, true),
+        (Kind::Simplex, 9, 2, false),
+        (Kind::Pyramid, 32, 0, false),
+    ];
+    for (kind, count, edge, is_table) in cases {
+        let mut entries = Vec::new(rt.alloc());
+        for _label in 0..count {
+            entries.push(vec![in rt.alloc(); [0, edge]]?)?;
+        }
+        match Table::<2>::from_entries(kind, entries) {
+            Ok(table) => {
+                assert!(rt; is_table);
+                assert!(rt; table.kind() == kind);
+                assert_eq!(rt; table.labels(), count);
+            }
+            Err(entries) => {
+                assert!(rt; !is_table);
+                assert_eq!(rt; entries.len(), count as usize);
+            }
+        }
+    }
+    Ok(())
 }
