@@ -1,0 +1,5 @@
+use Rattle.table_file.proofs.HeadLaws.{HasReached}
+use Rattle.table_file.proofs.heads.read_head.Given as goal
+
+abbrev pub invariant-loop-number : goal.invariant-loop-number
+invariant-loop-number l = HasReached l.bytes l.reached l.number

@@ -1,0 +1,37 @@
+-- How far bytes go on as the head of a table.
+use Rattle.std.specs.Prelude.{◌≡◌, ◌≢◌, ℕ, ◌+◌, ◌<◌, ◌≤◌, List, [], ◌∷◌, length, take, slice_index}
+use Rattle.iso_model.specs.declared.Kind.{Kind}
+use Rattle.iso_model.specs.declared.Kind.TheVariants.{Cube, Simplex, Pyramid}
+use Rattle.iso_model.specs.Cells.{HasDimension}
+use Rattle.iso_model.specs.TableFile.{head_bytes}
+
+-- the seven kinds and dimensions of tables
+abbrev pub rows : List (Kind × ℕ)
+rows = (Cube, 2) ∷ (Cube, 3) ∷ (Cube, 4) ∷ (Simplex, 2) ∷ (Simplex, 3) ∷ (Simplex, 4) ∷ (Pyramid, 3) ∷ []
+
+-- bytes and a head agree in so many places, and no more
+pub record IsAgreement (bytes head : List ℕ) (places : ℕ) : Type 0 where
+  pub inside_head : places ≤ 16
+  pub inside : places ≤ length bytes
+  pub same : take places bytes ≡ take places head
+  pub ends : places < 16 → places < length bytes → slice_index bytes places ≢ slice_index head places
+
+-- the first bytes, so many, are those of a head
+pub record BeginsHead (bytes : List ℕ) (places : ℕ) : Type 0 where
+  pub kind : Kind
+  pub dimension : ℕ
+  pub fits : HasDimension kind dimension
+  pub same : take places bytes ≡ take places (head_bytes 1 kind dimension)
+
+-- the bytes before the place begin a head, and there they end, or no head goes on
+pub record StopsInHead (bytes : List ℕ) (place : ℕ) : Type 0 where
+  pub inside_head : place < 16
+  pub inside : place ≤ length bytes
+  pub begun : BeginsHead bytes place
+  pub stopped : place < length bytes → ¬ BeginsHead bytes (place + 1)
+
+-- the first sixteen bytes are the head of a kind and a dimension
+pub record HasHead (bytes : List ℕ) (kind : Kind) (dimension : ℕ) : Type 0 where
+  pub fits : HasDimension kind dimension
+  pub whole : 16 ≤ length bytes
+  pub same : take 16 bytes ≡ head_bytes 1 kind dimension

@@ -1,0 +1,22 @@
+//! Tables of isosurface patches and their files.
+//!
+//! A table holds, for each labelling of a cell's corners as positive or negative, the simplices of the patch there:
+//! tuples of `D` local edge numbers of the cell, on each of which stands a vertex. [`decode`] reads the bytes of a
+//! table, and finds no table in any others.
+#![tactic(auto)]
+
+mod checks;
+mod entries;
+mod faults;
+mod heads;
+mod reading;
+mod tables;
+#[cfg(test)]
+mod tests;
+mod writing;
+
+pub use faults::TableFault;
+pub use iso_model::Kind;
+pub use reading::decode;
+pub use tables::{AnyTable, Table};
+pub use writing::encode;
