@@ -10,15 +10,13 @@ mod put;
 use err_sink::ErrSink;
 use file_shelf::FileShelf;
 use iso_base::{Memory, put_all};
+use iso_cli::{Status, run, status_text};
 use out_sink::OutSink;
 use std::alloc::{AllocError, Global};
 use std::io::ErrorKind;
 use std::process::ExitCode;
 use std::rt::Env;
 use std::{env, io};
-
-/// The status where memory was refused.
-const MEMORY: u8 = 1;
 
 /// The status where the words can't be read as text.
 const WORDS: u8 = 15;
@@ -54,24 +52,29 @@ fn words<R: Env + AllocGlobal>(rt: &R, alloc: Global) -> Result<Vec<String>, Wor
     Ok(words)
 }
 
-/// Puts the line of a status to standard error. A failure there changes no status.
+/// Puts a line to standard error, and ends with a status. A failure there changes no status.
 fn end(err: &mut ErrSink, line: &str, status: u8) -> ExitCode {
     let _ = put_all(err, line.as_bytes());
     ExitCode::from(status)
+}
+
+/// Ends as a run does where memory is refused.
+fn end_without_memory(err: &mut ErrSink) -> ExitCode {
+    end(err, status_text(&Status::Memory).as_str(), Status::Memory.code())
 }
 
 fn main(rt: HostRuntime) -> ExitCode {
     let mut err = ErrSink::new(rt.stderr());
     let words = match words(&rt, rt.alloc()) {
         Ok(words) => words,
-        Err(WordsFault::Memory) => return end(&mut err, "out of memory\n", MEMORY),
+        Err(WordsFault::Memory) => return end_without_memory(&mut err),
         Err(WordsFault::Unreadable) => return end(&mut err, "words\n", WORDS),
     };
-    let _shelf = match FileShelf::new(rt.alloc(), &rt) {
+    let mut shelf = match FileShelf::new(rt.alloc(), &rt) {
         Ok(shelf) => shelf,
-        Err(Memory) => return end(&mut err, "out of memory\n", MEMORY),
+        Err(Memory) => return end_without_memory(&mut err),
     };
-    let _out = OutSink::new(&rt);
-    let _words = words.as_slice();
-    ExitCode::from(0)
+    let mut out = OutSink::new(&rt);
+    let status = run(rt.alloc(), words.as_slice(), &mut shelf, &mut out, &mut err);
+    ExitCode::from(status.code())
 }

@@ -1,0 +1,5 @@
+pub mod StatusLines
+pub mod Causes
+pub mod Statuses
+pub mod Shelves
+pub mod Runs

@@ -1,0 +1,51 @@
+//! The table and the grid that the words name.
+
+ghost use Rattle.std.specs.Prelude.{◌≡◌, ℕ, List, Some, IsSome, IfOk, IfErr};
+ghost use Rattle.iso_base.specs.Files.{bytes_of};
+ghost use Rattle.iso_model.specs.TableFile.{IsTooLong, SpellsTable};
+ghost use Rattle.iso_model.specs.Values.{IsRegularGrid};
+ghost use Rattle.table_file.specs.Reading.{table_in};
+ghost use Rattle.iso_cli.specs.Shelves.{IsSameShelf, BlamesShelf};
+ghost use Rattle.iso_cli.specs.Statuses.{IsOfFiles, IsShelfFault};
+
+use crate::read::read_front;
+use crate::status::{Status, TableForm};
+use iso_base::Shelf;
+use nrrd_raw::{Grid, read_header, read_samples};
+use std::alloc::Global;
+use table_file::{AnyTable, decode};
+
+/// The most bytes that a table file has.
+const TABLE_LIMIT: usize = 1 << 30;
+
+/// Reads the table of a file.
+pub fn read_table<S: Shelf>(alloc: Global, shelf: &mut S, name: &str) -> Result<AnyTable, Status>
+    ensures shelf { IsSameShelf S.faults S.files S.sound shelf.old shelf.new }
+    ensures fault { IfErr result (λ status. BlamesShelf status (S.faults shelf.old) (S.faults shelf.new)) }
+    ensures sound { S.sound shelf.old → IsSome (bytes_of (S.files shelf.old) name.now) → IfErr result (λ status. ¬ IsShelfFault status) }
+    ensures refused { IfErr result IsOfFiles }
+    ensures table { (bytes : List ℕ) → bytes_of (S.files shelf.old) name.now ≡ Some bytes → IfOk result (λ table. ¬ IsTooLong bytes × SpellsTable bytes (table_in table)) }
+{
+    shelf.begin(name)?;
+    let bytes = read_front(alloc, shelf, TABLE_LIMIT + 1)?;
+    if bytes.len() > TABLE_LIMIT {
+        return Err(Status::TableForm(TableForm::Long));
+    }
+    Ok(decode(alloc, &bytes)?)
+}
+
+/// Reads the grid of a file, which is to have as many axes as a table has dimensions.
+pub fn read_grid<S: Shelf>(alloc: Global, shelf: &mut S, name: &str, dimension: u8) -> Result<Grid, Status>
+    ensures shelf { IsSameShelf S.faults S.files S.sound shelf.old shelf.new }
+    ensures fault { IfErr result (λ status. BlamesShelf status (S.faults shelf.old) (S.faults shelf.new)) }
+    ensures sound { S.sound shelf.old → IsSome (bytes_of (S.files shelf.old) name.now) → IfErr result (λ status. ¬ IsShelfFault status) }
+    ensures refused { IfErr result IsOfFiles }
+    ensures regular { IfOk result IsRegularGrid }
+{
+    shelf.begin(name)?;
+    let header = read_header(shelf)?;
+    if header.dims != dimension {
+        return Err(Status::Unfit { table: dimension, grid: header.dims });
+    }
+    Ok(read_samples(alloc, shelf, &header)?)
+}

@@ -1,0 +1,35 @@
+//! Files of a shelf, read up to a limit.
+
+ghost use Rattle.std.specs.Prelude.{◌≡◌, ◌≤◌, length, IfOk, IfErr};
+ghost use Rattle.iso_cli.specs.Shelves.{IsSameShelf, BlamesShelf, TakesAtMost, AreFrontOf};
+ghost use Rattle.iso_cli.specs.Statuses.{IsOfFiles, IsShelfFault};
+
+use crate::status::Status;
+use iso_base::Shelf;
+use std::alloc::Global;
+
+/// How many bytes are asked of a shelf at once.
+const PIECE: usize = 65536;
+
+/// Reads what is left of the file that was begun, up to `most` bytes.
+pub fn read_front<S: Shelf>(alloc: Global, shelf: &mut S, most: usize) -> Result<Vec<u8>, Status>
+    ensures shelf { IsSameShelf S.faults S.files S.sound shelf.old shelf.new }
+    ensures fault { IfErr result (λ status. BlamesShelf status (S.faults shelf.old) (S.faults shelf.new)) }
+    ensures sound { S.sound shelf.old → IfErr result (λ status. ¬ IsShelfFault status) }
+    ensures refused { IfErr result IsOfFiles }
+    ensures taken { TakesAtMost most (S.rest shelf.old) (S.rest shelf.new) }
+    ensures front { IfOk result (λ bytes. AreFrontOf most (S.rest shelf.old) bytes.items) }
+    ensures few { IfOk result (λ bytes. length bytes.items ≤ most) }
+{
+    let mut piece = [0; PIECE];
+    let mut bytes = Vec::new(alloc);
+    while bytes.len() < most {
+        let room = PIECE.min(most - bytes.len());
+        let count = shelf.take(&mut piece[..room])?;
+        if count == 0 {
+            break;
+        }
+        bytes.extend_from_slice(&piece[..count])?;
+    }
+    Ok(bytes)
+}
