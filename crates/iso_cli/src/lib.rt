@@ -12,3 +12,6 @@ mod vertices;
 pub use line::status_text;
 pub use program::run;
 pub use status::{GridCause, Status, TableCause, TableForm};
+
+#[cfg(test)]
+mod tests;

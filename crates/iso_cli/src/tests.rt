@@ -1,0 +1,219 @@
+ghost use Rattle.std.specs.Prelude.{◌≡◌, IfOk};
+
+use super::*;
+use iso_base::{MemFile, MemShelf, MemSink};
+use std::alloc::{AllocError, Global};
+use std::process::Abort;
+use std::test::Fail;
+
+// The table of the square: its head, and a line for each label.
+#[rattlefmt::skip]
+const SQUARE: [u8; 112] = [
+    b'H', b'U', b'L', b'L', b'T', b'A', b'B', b'1',
+    0, 2, 4, 4, 0, 0, 0, 16,
+    0, 0, 0, 0,
+    0, 0, 0, 1, 0, 1,
+    0, 0, 0, 1, 2, 0,
+    0, 0, 0, 1, 2, 1,
+    0, 0, 0, 1, 1, 3,
+    0, 0, 0, 1, 0, 3,
+    0, 0, 0, 2, 1, 0, 2, 3,
+    0, 0, 0, 1, 2, 3,
+    0, 0, 0, 1, 3, 2,
+    0, 0, 0, 2, 0, 2, 3, 1,
+    0, 0, 0, 1, 3, 0,
+    0, 0, 0, 1, 3, 1,
+    0, 0, 0, 1, 1, 2,
+    0, 0, 0, 1, 0, 2,
+    0, 0, 0, 1, 1, 0,
+    0, 0, 0, 0,
+];
+
+const HEADER: &str = "NRRD0001\ntype: uint8\ndimension: 2\nsizes: 2 2\nencoding: raw\n\n";
+
+const WORDS: &str = "extract table=square.tab grid=first.nrrd iso=5";
+
+const FIRST: &str = "nOFF\n2\n2 1 0\n0.500000 0.000000\n0.000000 0.500000\n2 0 1\n";
+
+// A run over the table of the square and a grid file, with calls that fail.
+#[derive(Clone, Copy)]
+struct Case<'a> {
+    words: &'a str,
+    header: &'a str,
+    samples: &'a [u8],
+    shelf_fails: &'a [u64],
+    out_fails: &'a [u64],
+    out_step: usize,
+    status: Status,
+    out: &'a str,
+    line: &'a str,
+}
+
+const fn extracts<'a>(header: &'a str, samples: &'a [u8], out: &'a str) -> Case<'a> {
+    Case {
+        words: WORDS,
+        header,
+        samples,
+        shelf_fails: &[],
+        out_fails: &[],
+        out_step: 64,
+        status: Status::Done,
+        out,
+        line: "",
+    }
+}
+
+const fn refuses<'a>(words: &'a str, header: &'a str, samples: &'a [u8], status: Status, line: &'a str) -> Case<'a> {
+    Case {
+        words,
+        header,
+        samples,
+        shelf_fails: &[],
+        out_fails: &[],
+        out_step: 64,
+        status,
+        out: "",
+        line,
+    }
+}
+
+fn words_of(alloc: Global, line: &str) -> Result<Vec<String>, AllocError> {
+    let mut words = Vec::new(alloc);
+    if !line.is_empty() {
+        for word in line.split(' ') {
+            words.push(String::from_str(alloc, word)?)?;
+        }
+    }
+    Ok(words)
+}
+
+fn file(alloc: Global, name: &str, head: &[u8], rest: &[u8]) -> Result<MemFile, AllocError>
+    ensures { IfOk result (λ file. file.0 ≡ name.now) }
+{
+    let mut bytes = Vec::from_slice(alloc, head)?;
+    bytes.extend_from_slice(rest)?;
+    Ok(MemFile {
+        name: String::from_str(alloc, name)?,
+        bytes,
+    })
+}
+
+fn shelf_of(alloc: Global, case: &Case) -> Result<MemShelf, AllocError> {
+    let mut files = Vec::new(alloc);
+    files.push(file(alloc, "square.tab", &SQUARE, &[])?)?;
+    files.push(file(alloc, "first.nrrd", case.header.as_bytes(), case.samples)?)?;
+    let fails = Vec::from_slice(alloc, case.shelf_fails)?;
+    Ok(MemShelf::new(files, fails, 1000))
+}
+
+// Runs the case, and compares the status and what was put.
+fn check(rt: &impl Abort, alloc: Global, number: usize, case: &Case) -> Result<(), Fail> {
+    let words = words_of(alloc, case.words)?;
+    let mut shelf = shelf_of(alloc, case)?;
+    let fails = Vec::from_slice(alloc, case.out_fails)?;
+    let mut out = MemSink::new(alloc, 1000, fails, case.out_step.max(1))?;
+    let mut err = MemSink::new(alloc, 1000, Vec::new(alloc), 10)?;
+    let status = run(alloc, words.as_slice(), &mut shelf, &mut out, &mut err);
+    assert_eq!(rt; status, case.status, "case {number}");
+    assert_eq!(rt; out.bytes(), case.out.as_bytes(), "case {number}");
+    assert_eq!(rt; err.bytes(), case.line.as_bytes(), "case {number}");
+    Ok(())
+}
+
+#[test]
+fn squares_have_their_segments(rt: HostRuntime) -> Result<(), Fail> {
+    let cases = [
+        extracts(HEADER, &[10, 0, 0, 0], FIRST),
+        // the ambiguous square: its positive corners are joined
+        extracts(
+            HEADER,
+            &[0, 10, 10, 0],
+            "nOFF\n2\n4 2 0\n0.500000 0.000000\n0.000000 0.500000\n1.000000 0.500000\n0.500000 1.000000\n2 1 0\n2 2 3\n",
+        ),
+        // a sample equal to the isovalue is positive
+        extracts(HEADER, &[5, 0, 0, 0], "nOFF\n2\n2 1 0\n0.000000 0.000000\n0.000000 0.000000\n2 0 1\n"),
+        extracts(HEADER, &[9, 9, 9, 9], "nOFF\n2\n0 0 0\n"),
+        // one sample along an axis: no squares
+        extracts(
+            "NRRD0001\ntype: uint8\ndimension: 2\nsizes: 1 7\nencoding: raw\n\n",
+            &[0, 9, 0, 9, 0, 9, 0],
+            "nOFF\n2\n0 0 0\n",
+        ),
+        Case {
+            words: "extract table=square.tab grid=first.nrrd iso=1",
+            ..extracts(HEADER, &[0, 3, 0, 3], "nOFF\n2\n2 1 0\n0.333333 0.000000\n0.333333 1.000000\n2 1 0\n")
+        },
+        // shorts with the high byte first
+        Case {
+            words: "extract table=square.tab iso=-3 grid=first.nrrd",
+            ..extracts(
+                "NRRD0005\ntype: short\ndimension: 2\nsizes: 2 2\nendian: big\nencoding: raw\n\n",
+                &[0xff, 0xfb, 0, 0, 0xff, 0xfb, 0, 0],
+                "nOFF\n2\n2 1 0\n0.400000 0.000000\n0.400000 1.000000\n2 1 0\n",
+            )
+        },
+    ];
+    for (number, case) in cases.iter().enumerate() {
+        check(&rt, rt.alloc(), number, case)?;
+    }
+    Ok(())
+}
+
+#[test]
+fn refusals_put_their_line(rt: HostRuntime) -> Result<(), Fail> {
+    let samples = [10, 0, 0, 0];
+    let cases = [
+        refuses("", HEADER, &samples, Status::Usage(1), "usage: word 1\n"),
+        refuses("extract table=a grid=b iso=05", HEADER, &samples, Status::Usage(4), "usage: word 4\n"),
+        refuses("extract table=a grid=b", HEADER, &samples, Status::Usage(4), "usage: word 4\n"),
+        refuses("check table=square.tab", HEADER, &samples, Status::NotYet, "not yet\n"),
+        refuses("extract table=square.tab grid=b iso=5", HEADER, &samples, Status::ShelfFault(1), "shelf fault: 1\n"),
+        refuses(
+            "extract table=first.nrrd grid=b iso=5",
+            HEADER,
+            &samples,
+            Status::TableForm(TableForm::Fault {
+                place: 0,
+                cause: TableCause::Magic,
+            }),
+            "table form: magic 0\n",
+        ),
+        refuses(
+            WORDS,
+            "NRRD0001\ntype: uint8\ndimension: 2\nsizes: 2 2\nencoding: gzip\n\n",
+            &samples,
+            Status::GridForm(GridCause::Encoding(5)),
+            "grid form: encoding 5\n",
+        ),
+        refuses(WORDS, HEADER, &[10, 0, 0], Status::GridForm(GridCause::DataShort(3)), "grid form: short 3\n"),
+        refuses(WORDS, HEADER, &[10, 0, 0, 0, 0], Status::GridForm(GridCause::Trailing), "grid form: trailing\n"),
+        refuses(
+            WORDS,
+            "NRRD0001\ntype: uint8\ndimension: 3\nsizes: 2 2 1\nencoding: raw\n\n",
+            &samples,
+            Status::Unfit { table: 2, grid: 3 },
+            "unfit: table 2 grid 3\n",
+        ),
+        refuses(
+            WORDS,
+            "NRRD0001\ntype: uint8\ndimension: 2\nsizes: 16384 16384\nencoding: raw\n\n",
+            &[],
+            Status::GridLarge(268435456),
+            "grid large: 268435456\n",
+        ),
+        Case {
+            shelf_fails: &[1],
+            ..refuses(WORDS, HEADER, &samples, Status::ShelfFault(1), "shelf fault: 1\n")
+        },
+        Case {
+            out_step: 1,
+            out_fails: &[1],
+            out: "n",
+            ..refuses(WORDS, HEADER, &samples, Status::WriteFault(1), "write fault: 1\n")
+        },
+    ];
+    for (number, case) in cases.iter().enumerate() {
+        check(&rt, rt.alloc(), number, case)?;
+    }
+    Ok(())
+}
