@@ -60,7 +60,11 @@ fn end(err: &mut ErrSink, line: &str, status: u8) -> ExitCode {
 
 /// Ends as a run does where memory is refused.
 fn end_without_memory(err: &mut ErrSink) -> ExitCode {
-    end(err, status_text(&Status::Memory).as_str(), Status::Memory.code())
+    end(
+        err,
+        status_text(&Status::Memory).as_str(),
+        Status::Memory.code(),
+    )
 }
 
 fn main(rt: HostRuntime) -> ExitCode {

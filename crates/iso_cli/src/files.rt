@@ -35,7 +35,12 @@ pub fn read_table<S: Shelf>(alloc: Global, shelf: &mut S, name: &str) -> Result<
 }
 
 /// Reads the grid of a file, which is to have as many axes as a table has dimensions.
-pub fn read_grid<S: Shelf>(alloc: Global, shelf: &mut S, name: &str, dimension: u8) -> Result<Grid, Status>
+pub fn read_grid<S: Shelf>(
+    alloc: Global,
+    shelf: &mut S,
+    name: &str,
+    dimension: u8,
+) -> Result<Grid, Status>
     ensures shelf { IsSameShelf S.faults S.files S.sound shelf.old shelf.new }
     ensures fault { IfErr result (λ status. BlamesShelf status (S.faults shelf.old) (S.faults shelf.new)) }
     ensures sound { S.sound shelf.old → IsSome (bytes_of (S.files shelf.old) name.now) → IfErr result (λ status. ¬ IsShelfFault status) }
@@ -45,7 +50,10 @@ pub fn read_grid<S: Shelf>(alloc: Global, shelf: &mut S, name: &str, dimension: 
     shelf.begin(name)?;
     let header = read_header(shelf)?;
     if header.dims != dimension {
-        return Err(Status::Unfit { table: dimension, grid: header.dims });
+        return Err(Status::Unfit {
+            table: dimension,
+            grid: header.dims,
+        });
     }
     Ok(read_samples(alloc, shelf, &header)?)
 }

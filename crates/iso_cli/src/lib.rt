@@ -3,8 +3,8 @@
 
 mod files;
 mod line;
-mod read;
 mod program;
+mod read;
 mod squares;
 mod status;
 mod vertices;

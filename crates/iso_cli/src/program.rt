@@ -80,7 +80,9 @@ fn perform<S: Shelf, O: Sink>(alloc: Global, words: &[String], shelf: &mut S, ou
     ensures front { IsWriteFault result → PutsFrontOfMesh (O.bytes out.old) (O.bytes out.new) }
 {
     match parse(words) {
-        Ok(Command::Extract { table, grid, iso }) => match extract(alloc, table, grid, iso, shelf, out) {
+        Ok(Command::Extract { table, grid, iso }) => match extract(
+            alloc, table, grid, iso, shelf, out,
+        ) {
             Ok(()) => Status::Done,
             Err(status) => status,
         },

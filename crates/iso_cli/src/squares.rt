@@ -83,7 +83,12 @@ fn add_row(
 }
 
 /// The segments of a grid, row after row.
-fn find_segments(alloc: Global, field: &Samples, table: &Table<2>, vertices: &Vertices) -> Result<Vec<[u32; 2]>, Status>
+fn find_segments(
+    alloc: Global,
+    field: &Samples,
+    table: &Table<2>,
+    vertices: &Vertices,
+) -> Result<Vec<[u32; 2]>, Status>
     requires { length table.now.entries ≡ 16 }
     ensures refused { IfErr result IsMemoryOrNotYet }
     ensures pairs { IfOk result (λ segments. All (λ segment. length segment ≡ 2) segments.items) }
@@ -99,7 +104,12 @@ fn find_segments(alloc: Global, field: &Samples, table: &Table<2>, vertices: &Ve
 
 /// The mesh of a table in a grid of two dimensions, at an isovalue. A table of other cells than squares, one with a
 /// tuple on an edge that does not differ in sign, and a grid of another dimension are not built yet.
-pub fn extract_squares(alloc: Global, table: &Table<2>, grid: &Grid, iso: i64) -> Result<Mesh<2>, Status>
+pub fn extract_squares(
+    alloc: Global,
+    table: &Table<2>,
+    grid: &Grid,
+    iso: i64,
+) -> Result<Mesh<2>, Status>
     requires { IsRegularGrid grid.now }
     ensures refused { IfErr result IsMemoryOrNotYet }
     ensures mesh { IfOk result (IsMesh 2) }

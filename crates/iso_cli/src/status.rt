@@ -155,11 +155,26 @@ impl From<TableFault> for Status {
 
     fn from(fault: TableFault) -> Self {
         match fault {
-            TableFault::Magic(place) => Status::TableForm(TableForm::Fault { place, cause: TableCause::Magic }),
-            TableFault::Kind(place) => Status::TableForm(TableForm::Fault { place, cause: TableCause::Kind }),
-            TableFault::EdgeNumber(place) => Status::TableForm(TableForm::Fault { place, cause: TableCause::EdgeNumber }),
-            TableFault::Short(place) => Status::TableForm(TableForm::Fault { place, cause: TableCause::Short }),
-            TableFault::Extra(place) => Status::TableForm(TableForm::Fault { place, cause: TableCause::Extra }),
+            TableFault::Magic(place) => Status::TableForm(TableForm::Fault {
+                place,
+                cause: TableCause::Magic,
+            }),
+            TableFault::Kind(place) => Status::TableForm(TableForm::Fault {
+                place,
+                cause: TableCause::Kind,
+            }),
+            TableFault::EdgeNumber(place) => Status::TableForm(TableForm::Fault {
+                place,
+                cause: TableCause::EdgeNumber,
+            }),
+            TableFault::Short(place) => Status::TableForm(TableForm::Fault {
+                place,
+                cause: TableCause::Short,
+            }),
+            TableFault::Extra(place) => Status::TableForm(TableForm::Fault {
+                place,
+                cause: TableCause::Extra,
+            }),
             TableFault::Memory => Status::Memory,
         }
     }

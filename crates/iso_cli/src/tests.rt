@@ -63,7 +63,13 @@ const fn extracts<'a>(header: &'a str, samples: &'a [u8], out: &'a str) -> Case<
     }
 }
 
-const fn refuses<'a>(words: &'a str, header: &'a str, samples: &'a [u8], status: Status, line: &'a str) -> Case<'a> {
+const fn refuses<'a>(
+    words: &'a str,
+    header: &'a str,
+    samples: &'a [u8],
+    status: Status,
+    line: &'a str,
+) -> Case<'a> {
     Case {
         words,
         header,
@@ -131,7 +137,11 @@ fn squares_have_their_segments(rt: HostRuntime) -> Result<(), Fail> {
             "nOFF\n2\n4 2 0\n0.500000 0.000000\n0.000000 0.500000\n1.000000 0.500000\n0.500000 1.000000\n2 1 0\n2 2 3\n",
         ),
         // a sample equal to the isovalue is positive
-        extracts(HEADER, &[5, 0, 0, 0], "nOFF\n2\n2 1 0\n0.000000 0.000000\n0.000000 0.000000\n2 0 1\n"),
+        extracts(
+            HEADER,
+            &[5, 0, 0, 0],
+            "nOFF\n2\n2 1 0\n0.000000 0.000000\n0.000000 0.000000\n2 0 1\n",
+        ),
         extracts(HEADER, &[9, 9, 9, 9], "nOFF\n2\n0 0 0\n"),
         // one sample along an axis: no squares
         extracts(
@@ -141,7 +151,11 @@ fn squares_have_their_segments(rt: HostRuntime) -> Result<(), Fail> {
         ),
         Case {
             words: "extract table=square.tab grid=first.nrrd iso=1",
-            ..extracts(HEADER, &[0, 3, 0, 3], "nOFF\n2\n2 1 0\n0.333333 0.000000\n0.333333 1.000000\n2 1 0\n")
+            ..extracts(
+                HEADER,
+                &[0, 3, 0, 3],
+                "nOFF\n2\n2 1 0\n0.333333 0.000000\n0.333333 1.000000\n2 1 0\n",
+            )
         },
         // shorts with the high byte first
         Case {
@@ -164,10 +178,34 @@ fn refusals_put_their_line(rt: HostRuntime) -> Result<(), Fail> {
     let samples = [10, 0, 0, 0];
     let cases = [
         refuses("", HEADER, &samples, Status::Usage(1), "usage: word 1\n"),
-        refuses("extract table=a grid=b iso=05", HEADER, &samples, Status::Usage(4), "usage: word 4\n"),
-        refuses("extract table=a grid=b", HEADER, &samples, Status::Usage(4), "usage: word 4\n"),
-        refuses("check table=square.tab", HEADER, &samples, Status::NotYet, "not yet\n"),
-        refuses("extract table=square.tab grid=b iso=5", HEADER, &samples, Status::ShelfFault(1), "shelf fault: 1\n"),
+        refuses(
+            "extract table=a grid=b iso=05",
+            HEADER,
+            &samples,
+            Status::Usage(4),
+            "usage: word 4\n",
+        ),
+        refuses(
+            "extract table=a grid=b",
+            HEADER,
+            &samples,
+            Status::Usage(4),
+            "usage: word 4\n",
+        ),
+        refuses(
+            "check table=square.tab",
+            HEADER,
+            &samples,
+            Status::NotYet,
+            "not yet\n",
+        ),
+        refuses(
+            "extract table=square.tab grid=b iso=5",
+            HEADER,
+            &samples,
+            Status::ShelfFault(1),
+            "shelf fault: 1\n",
+        ),
         refuses(
             "extract table=first.nrrd grid=b iso=5",
             HEADER,
@@ -185,8 +223,20 @@ fn refusals_put_their_line(rt: HostRuntime) -> Result<(), Fail> {
             Status::GridForm(GridCause::Encoding(5)),
             "grid form: encoding 5\n",
         ),
-        refuses(WORDS, HEADER, &[10, 0, 0], Status::GridForm(GridCause::DataShort(3)), "grid form: short 3\n"),
-        refuses(WORDS, HEADER, &[10, 0, 0, 0, 0], Status::GridForm(GridCause::Trailing), "grid form: trailing\n"),
+        refuses(
+            WORDS,
+            HEADER,
+            &[10, 0, 0],
+            Status::GridForm(GridCause::DataShort(3)),
+            "grid form: short 3\n",
+        ),
+        refuses(
+            WORDS,
+            HEADER,
+            &[10, 0, 0, 0, 0],
+            Status::GridForm(GridCause::Trailing),
+            "grid form: trailing\n",
+        ),
         refuses(
             WORDS,
             "NRRD0001\ntype: uint8\ndimension: 3\nsizes: 2 2 1\nencoding: raw\n\n",
@@ -203,13 +253,25 @@ fn refusals_put_their_line(rt: HostRuntime) -> Result<(), Fail> {
         ),
         Case {
             shelf_fails: &[1],
-            ..refuses(WORDS, HEADER, &samples, Status::ShelfFault(1), "shelf fault: 1\n")
+            ..refuses(
+                WORDS,
+                HEADER,
+                &samples,
+                Status::ShelfFault(1),
+                "shelf fault: 1\n",
+            )
         },
         Case {
             out_step: 1,
             out_fails: &[1],
             out: "n",
-            ..refuses(WORDS, HEADER, &samples, Status::WriteFault(1), "write fault: 1\n")
+            ..refuses(
+                WORDS,
+                HEADER,
+                &samples,
+                Status::WriteFault(1),
+                "write fault: 1\n",
+            )
         },
     ];
     for (number, case) in cases.iter().enumerate() {

@@ -47,7 +47,13 @@ fn crossing_offset(low: i64, high: i64, iso: i64) -> u64
 }
 
 /// Adds the vertex on the edge from the sample at `place` along its row, if there is one.
-fn add_along(field: &Samples, all: &mut Vertices, place: usize, column: usize, row: usize) -> Result<(), Status>
+fn add_along(
+    field: &Samples,
+    all: &mut Vertices,
+    place: usize,
+    column: usize,
+    row: usize,
+) -> Result<(), Status>
     requires inside { place < length field.now.samples.now }
     requires order { vec_len all.old.along ≡ place }
     requires last { vec_len all.old.up ≤ place }
@@ -58,7 +64,10 @@ fn add_along(field: &Samples, all: &mut Vertices, place: usize, column: usize, r
     ensures up { vec_len all.new.up ≡ vec_len all.old.up }
 {
     let high = place + 1;
-    if column + 1 >= field.width || high >= field.samples.len() || is_positive(field, place) == is_positive(field, high) {
+    if column + 1 >= field.width
+        || high >= field.samples.len()
+        || is_positive(field, place) == is_positive(field, high)
+    {
         all.along.push(None)?;
         return Ok(());
     }
@@ -72,7 +81,13 @@ fn add_along(field: &Samples, all: &mut Vertices, place: usize, column: usize, r
 }
 
 /// Adds the vertex on the edge from the sample at `place` up to the next row, if there is one.
-fn add_up(field: &Samples, all: &mut Vertices, place: usize, column: usize, row: usize) -> Result<(), Status>
+fn add_up(
+    field: &Samples,
+    all: &mut Vertices,
+    place: usize,
+    column: usize,
+    row: usize,
+) -> Result<(), Status>
     requires inside { place < length field.now.samples.now }
     requires order { vec_len all.old.up ≡ place }
     requires last { vec_len all.old.along ≤ length field.now.samples.now }
@@ -97,7 +112,12 @@ fn add_up(field: &Samples, all: &mut Vertices, place: usize, column: usize, row:
 }
 
 /// Adds the vertices along a row of samples, which begins at `start`.
-fn add_row_along(field: &Samples, all: &mut Vertices, start: usize, row: usize) -> Result<(), Status>
+fn add_row_along(
+    field: &Samples,
+    all: &mut Vertices,
+    start: usize,
+    row: usize,
+) -> Result<(), Status>
     requires inside { start + field.now.width ≤ length field.now.samples.now }
     requires along { vec_len all.old.along ≡ start }
     requires up { vec_len all.old.up ≤ start }
