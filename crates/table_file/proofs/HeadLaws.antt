@@ -63,12 +63,12 @@ pub whole_head : (bytes : List ℕ) (row : Kind × ℕ) → HasDimension row.0 r
 whole_head bytes row fits a = record { fits = fits; whole = a.inside; same = a.same }
 
 -- each kind and dimension is one of the seven
-record StandsAmong (kind : Kind) (d : ℕ) : Type 0 where
+pub record StandsAmong (kind : Kind) (d : ℕ) : Type 0 where
   pub index : ℕ
   pub inside : index < 7
   pub is : get_or rows index (kind, d) ≡ (kind, d)
 
-stands_among : (kind : Kind) (d : ℕ) → HasDimension kind d → StandsAmong kind d
+pub stands_among : (kind : Kind) (d : ℕ) → HasDimension kind d → StandsAmong kind d
 stands_among =
     let by : (kind : Kind) (d : ℕ) → Type 0 = λ kind d. StandsAmong kind d in
     each_row by

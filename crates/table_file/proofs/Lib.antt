@@ -6,3 +6,7 @@ mod Progress
 mod RefusalLaws
 mod WritingLaws
 mod CheckLaws
+mod Beginnings
+mod Causes
+mod FaultLaws
+mod SomeFault

@@ -62,7 +62,7 @@ read_all kind d bytes es place r labels end = (
 
 -- ---- no table goes on
 
-All-further : (P : List (List ℕ) → Type 0) (es gs fs : List (List (List ℕ))) → fs ≡ es ++ gs → All P fs → All P gs
+pub All-further : (P : List (List ℕ) → Type 0) (es gs fs : List (List (List ℕ))) → fs ≡ es ++ gs → All P fs → All P gs
 All-further P [] gs fs e s = subst (λ (l : List (List (List ℕ))). All P l) e s
 All-further P (g ∷ es) gs [] e s = absurd (cc)
 All-further P (g ∷ es) gs (f ∷ fs) e s = All-further P es gs fs (ap (drop 1) e) (All_tail P f fs s)
@@ -93,7 +93,7 @@ goes_on_as kind d bytes es place r few u more s =
     }
 
 -- where more entries are to come, the next one begins the rest
-next_entry : (kind : Kind) (d : ℕ) (es : List (List (List ℕ))) (rest more : List ℕ) (gs : List (List (List ℕ))) → All (IsEntry kind d) gs → rest ++ more ≡ flat_map entry_bytes gs
+pub next_entry : (kind : Kind) (d : ℕ) (es : List (List (List ℕ))) (rest more : List ℕ) (gs : List (List (List ℕ))) → All (IsEntry kind d) gs → rest ++ more ≡ flat_map entry_bytes gs
     → 0 < length gs → ((g : List (List ℕ)) (y : List ℕ) → IsEntry kind d g → rest ++ more ≡ entry_bytes g ++ y → ⊥) → ⊥
 next_entry kind d es rest more [] s e some never = omega (arith, some)
 next_entry kind d es rest more (g ∷ gs) s e some never = never g (flat_map entry_bytes gs) (All_head (IsEntry kind d) g gs s) e

@@ -9,6 +9,7 @@ mod checks;
 mod entries;
 mod faults;
 mod heads;
+mod laws;
 mod reading;
 mod tables;
 #[cfg(test)]
@@ -17,6 +18,7 @@ mod writing;
 
 pub use faults::TableFault;
 pub use iso_model::Kind;
+pub use laws::{one_fault_law, wrong_edge_law};
 pub use reading::decode;
 pub use tables::{AnyTable, Table};
 pub use writing::encode;

@@ -3,8 +3,8 @@
 ghost use Rattle.std.specs.Prelude.{◌≡◌, ◌≤◌, length, IfOk, IfErr, IsOkUnless};
 ghost use Rattle.iso_model.specs.Tables.{Table as TableValue};
 ghost use Rattle.iso_model.specs.TableFile.{SpellsTable, IsWholeTable, table_limit};
-ghost use Rattle.table_file.specs.Heads.{HasHead};
-ghost use Rattle.table_file.specs.Reading.{table_in, HasOwnDimension};
+ghost use Rattle.table_file.specs.Heads.{HasHead, StopsInHead};
+ghost use Rattle.table_file.specs.Reading.{table_in, HasOwnDimension, HasCause};
 
 use crate::entries::read_entry;
 use crate::faults::TableFault;
@@ -24,10 +24,11 @@ pub fn decode(alloc: Global, bytes: &[u8]) -> Result<AnyTable, TableFault>
     ensures same { (t : TableValue) → SpellsTable bytes.now t → IfOk result (λ table. table_in table ≡ t) }
     ensures dimension { IfOk result HasOwnDimension }
     ensures whole { IsWholeTable bytes.now → IsOkUnless result TableFault.Memory }
+    ensures cause { IfErr result (HasCause bytes.now) }
 {
     let (kind, dimension) = match read_head(bytes) {
         Ok(row) => row,
-        Err(place) => return Err(head_fault(place, bytes.len())),
+        Err(place) => return Err(head_fault(bytes, place)),
     };
     match dimension {
         2 => Ok(AnyTable::T2(read_table(alloc, kind, bytes)?)),
@@ -36,9 +37,12 @@ pub fn decode(alloc: Global, bytes: &[u8]) -> Result<AnyTable, TableFault>
     }
 }
 
-/// The fault of a head that stops at this place, of so many bytes.
-fn head_fault(place: usize, length: usize) -> TableFault {
-    if place == length {
+/// The fault of bytes that stop at this place of a head.
+fn head_fault(bytes: &[u8], place: usize) -> TableFault
+    requires { StopsInHead bytes.now place }
+    ensures { HasCause bytes.now result }
+{
+    if place == bytes.len() {
         TableFault::Short(place as u64)
     } else if place < 8 {
         TableFault::Magic(place as u64)
@@ -58,6 +62,7 @@ fn read_table<const D: usize>(
     ensures table { IfOk result (SpellsTable bytes.now) }
     ensures dimension { IfOk result (λ table. table.dimension ≡ D) }
     ensures whole { IsWholeTable bytes.now → IsOkUnless result TableFault.Memory }
+    ensures cause { IfErr result (HasCause bytes.now) }
 {
     let labels = labels(kind, D as u8);
     let mut entries = Vec::with_capacity(alloc, labels as usize)?;
