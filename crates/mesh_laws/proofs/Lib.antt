@@ -1,0 +1,4 @@
+pub mod Sorting
+pub mod Members
+pub mod Taking
+pub mod FaceOf
