@@ -1,5 +1,5 @@
 -- A simplex has a face where it has all numbers of it; the sign of the face is told by the number that the face leaves out.
-use Rattle.std.proofs.Common.{◌≡◌, ℕ, zero, suc, ◌+◌, ◌<◌, ◌≤◌, Bool, true, false, not, ◌&&◌, List, [], ◌∷◌, ◌++◌, length, take, get_or, ℤ, pos, negsuc, unsigned_abs, ◌+ℤ◌, refl, ap, sym, ◌∙◌, subst, arith, inl, inr}
+use Rattle.std.proofs.Common.{◌≡◌, ℕ, zero, suc, ◌+◌, ◌<◌, ◌≤◌, Bool, true, false, ◌&&◌, List, [], ◌∷◌, ◌++◌, length, take, get_or, ℤ, pos, negsuc, unsigned_abs, ◌+ℤ◌, refl, ap, sym, ◌∙◌, subst, arith, inl, inr}
 use Rattle.std.specs.Prelude.{map, count_by, ◌≢◌, ◌%◌, ◌==◌, nat_eq, nat_lt, slice_index, ◌⊎◌, if◌then◌else◌}
 use Rattle.std.specs.List.{list_any, range_with_len}
 use Rattle.std.specs.List.Sorted.{IsStrictlyIncreasing}
@@ -12,25 +12,14 @@ use Rattle.iso_model.specs.Turns.{total, signed}
 use Rattle.iso_model.specs.Faces.{face_without, sign_without, has_face, sign_of_face}
 use Rattle.iso_model.proofs.Deciding.{any_default, below_contained, contained_below}
 use Rattle.mesh_laws.proofs.Sorting.{bit, count_by-cons, Distinct}
-use Rattle.mesh_laws.proofs.Members.{In, In_from, Contains_from, from_any, any_from, count_none, count_some}
+use Rattle.mesh_laws.proofs.Members.{In, In_from, Contains_from, from_any, any_from}
+use Rattle.mesh_laws.proofs.FaceSigns.{not_true, and_left, and_right, from_distinct_test}
 use Rattle.mesh_laws.proofs.Taking.{Takes, here, later, Takes-In, Takes-In_left, Takes-In_taken, Takes-count, Takes-apart, In-sorted, from_In-sorted, not_In_of_count, Ascends, one_more}
 
 -- ---- tests of members
 
-pub not_true : (b : Bool) → (b ≡ true → ⊥) → b ≡ false
-not_true true h = absurd (h refl)
-not_true false h = refl
-
-clash : (b : Bool) → b ≡ false → b ≡ true → ⊥
+pub clash : (b : Bool) → b ≡ false → b ≡ true → ⊥
 clash b e f = cc
-
-pub and_left : (a b : Bool) → (a && b) ≡ true → a ≡ true
-and_left true b h = refl
-and_left false b h = h
-
-pub and_right : (a b : Bool) → (a && b) ≡ true → b ≡ true
-and_right true b h = h
-and_right false b h = absurd (cc)
 
 and_true : (a : Bool) → (a && true) ≡ a
 and_true true = refl
@@ -39,7 +28,7 @@ and_true false = refl
 eq_self : (x : ℕ) → nat_eq x x ≡ true
 eq_self x = grind (arith, nat_tests)
 
-eq_same : (x y : ℕ) → nat_eq x y ≡ true → y ≡ x
+pub eq_same : (x y : ℕ) → nat_eq x y ≡ true → y ≡ x
 eq_same x y e = grind (arith, nat_tests)
 
 pub In_of_has : (xs : List ℕ) (x : ℕ) → has xs x ≡ true → In x xs
@@ -50,24 +39,6 @@ has_of_In xs x i = any_from (nat_eq x) xs x i (eq_self x)
 
 pub not_In_of_has : (xs : List ℕ) (x : ℕ) → has xs x ≡ false → In x xs → ⊥
 not_In_of_has xs x h i = clash (has xs x) h (has_of_In xs x i)
-
-none_of_not_has : (x : ℕ) (xs : List ℕ) → has xs x ≡ false → count_by (nat_eq x) xs ≡ 0
-none_of_not_has x xs h = count_none (nat_eq x) xs (λ y i e. clash (has xs x) h (any_from (nat_eq x) xs y i e))
-
-pub from_distinct_test : (w : List ℕ) → is_distinct w ≡ true → Distinct w
-from_distinct_test [] h = tt
-from_distinct_test (x ∷ w) h = let r = both (has w x) (is_distinct w) h in (none_of_not_has x w r.0, from_distinct_test w r.1)
-  where
-    both : (a b : Bool) → (not a && b) ≡ true → (a ≡ false) × (b ≡ true)
-    both true b e = absurd (cc)
-    both false b e = (refl, e)
-
-not_has_of_none : (x : ℕ) (xs : List ℕ) → count_by (nat_eq x) xs ≡ 0 → has xs x ≡ false
-not_has_of_none x xs none = not_true (has xs x) (λ h. let r = from_any (nat_eq x) xs h in let some : 1 ≤ count_by (nat_eq x) xs = count_some (nat_eq x) xs r.0 r.1 r.2 in omega arith)
-
-pub distinct_test : (w : List ℕ) → Distinct w → is_distinct w ≡ true
-distinct_test [] d = refl
-distinct_test (x ∷ w) d = rw (not_has_of_none x w d.0, distinct_test w d.1) refl
 
 -- ---- places
 
@@ -106,7 +77,7 @@ face_place face w h =
     let r = from_any (λ i. same_list (face_without w i) face) (numbers (length w)) any in
     (r.0, from_In-numbers (length w) r.0 r.1, (bytes_eq-Decides (face_without w r.0) face).0 r.2)
 
-any_place : (face w : List ℕ) (k : ℕ) → k < length w → sorted (without k w) ≡ face → list_any (λ i. same_list (face_without w i) face) (numbers (length w)) ≡ true
+pub any_place : (face w : List ℕ) (k : ℕ) → k < length w → sorted (without k w) ≡ face → list_any (λ i. same_list (face_without w i) face) (numbers (length w)) ≡ true
 any_place face w k h e = any_from (λ i. same_list (face_without w i) face) (numbers (length w)) k (In-numbers (length w) k h) ((bytes_eq-Decides (face_without w k) face).1 e)
 
 pub has_face_all : (face w : List ℕ) → Ascends face → length w ≡ length face + 1 → ((f : ℕ) → In f face → In f w) → has_face face w ≡ is_distinct w
@@ -121,8 +92,8 @@ has_face_lacks face w f i lacks = not_true (has_face face w) (λ h.
     lacks (Takes-In_left (place_takes w r.0 r.1) f (from_In-sorted f (without r.0 w) (subst (λ (v : List ℕ). In f v) (sym r.2) i))))
 
 -- the place that a face leaves out has a number that is not in the face, and the simplex has no other such number
-pub left_out : (face w : List ℕ) (k : ℕ) → is_distinct w ≡ true → k < length w → sorted (without k w) ≡ face → In (get_or w k 0) face → ⊥
-left_out face w k d h e i =
+pub place_left_out : (face w : List ℕ) (k : ℕ) → is_distinct w ≡ true → k < length w → sorted (without k w) ≡ face → In (get_or w k 0) face → ⊥
+place_left_out face w k d h e i =
     let t = place_takes w k h in
     let apart = Takes-apart t (from_distinct_test w d) in
     not_In_of_count (get_or w k 0) (without k w) apart.0 (from_In-sorted (get_or w k 0) (without k w) (subst (λ (v : List ℕ). In (get_or w k 0) v) (sym e) i))
@@ -137,7 +108,7 @@ pub some_free : (face w : List ℕ) → has_face face w ≡ true → (x : ℕ) �
 some_free face w h =
     let r = face_place face w h in
     let d = and_left (is_distinct w) (list_any (λ i. same_list (face_without w i) face) (numbers (length w))) h in
-    (get_or w r.0 0, Takes-In_taken (place_takes w r.0 r.1), left_out face w r.0 d r.1 r.2)
+    (get_or w r.0 0, Takes-In_taken (place_takes w r.0 r.1), place_left_out face w r.0 d r.1 r.2)
 
 -- ---- its sign
 
@@ -191,6 +162,13 @@ sign_here face w i same = let e : same_list (face_without w i) face ≡ true = (
 sign_total : (face w : List ℕ) → is_distinct w ≡ true → sign_of_face face w ≡ total (map (sign_at face w) (numbers (length w)))
 sign_total face w d = rw d refl
 
+-- the sign is that at the one place that the face leaves out
+pub sign_of_place : (face w : List ℕ) (k : ℕ) → is_distinct w ≡ true → k < length w → sorted (without k w) ≡ face → sign_of_face face w ≡ sign_without w k
+sign_of_place face w k d h e =
+    let one = total_one (sign_at face w) 0 (length w) k (omega arith) (omega (arith, h)) (λ j l m n. sign_elsewhere face w j (λ f.
+    place_left_out face w k d h e (subst (λ (v : List ℕ). In (get_or w k 0) v) f (In-sorted (get_or w k 0) (without j w) (In-without w k j h n))))) in
+    sign_total face w d ∙ one ∙ sign_here face w k e
+
 pub sign_of_free : (face w : List ℕ) (x : ℕ) → has_face face w ≡ true → In x w → (In x face → ⊥)
     → sign_of_face face w ≡ signed (is_odd (inversions w + count_by (λ y. nat_lt y x) w)) (pos 1)
 sign_of_free face w x h i free =
@@ -198,10 +176,8 @@ sign_of_free face w x h i free =
     let k = r.0 in
     let d = and_left (is_distinct w) (list_any (λ i. same_list (face_without w i) face) (numbers (length w))) h in
     let same : x ≡ get_or w k 0 = the_left_out face w k x r.1 r.2 i free in
-    let one = total_one (sign_at face w) 0 (length w) k (omega arith) (omega (arith, r.1)) (λ j l m n. sign_elsewhere face w j (λ e.
-    left_out face w k d r.1 r.2 (subst (λ (v : List ℕ). In (get_or w k 0) v) e (In-sorted (get_or w k 0) (without j w) (In-without w k j r.1 n))))) in
     let odd = odd_same (k + inversions (without k w)) (inversions w + count_by (λ y. nat_lt y (get_or w k 0)) w) (rank w k r.1 (from_distinct_test w d)) in
-    sign_total face w d ∙ one ∙ sign_here face w k r.2 ∙ ap (λ (b : Bool). signed b (pos 1)) (odd ∙ ap (λ (y : ℕ). is_odd (inversions w + count_by (λ z. nat_lt z y) w)) (sym same))
+    sign_of_place face w k d r.1 r.2 ∙ ap (λ (b : Bool). signed b (pos 1)) (odd ∙ ap (λ (y : ℕ). is_odd (inversions w + count_by (λ z. nat_lt z y) w)) (sym same))
 
 pub sign_none : (face w : List ℕ) → has_face face w ≡ false → sign_of_face face w ≡ pos 0
 sign_none face w h = go (is_distinct w) refl

@@ -1,4 +1,6 @@
 pub mod Sorting
 pub mod Members
+pub mod FaceSigns
 pub mod Taking
 pub mod FaceOf
+pub mod SignedFaces
