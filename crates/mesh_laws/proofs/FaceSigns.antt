@@ -235,7 +235,7 @@ Each-put_in_case : (D : ℕ → Type 0) (x y : ℕ) (w : List ℕ) → D x → D
 Each-put_in_case D x y w dx all later true = (dx, all)
 Each-put_in_case D x y w dx all later false = (all.0, later)
 
-Each-put_in : (D : ℕ → Type 0) (x : ℕ) (w : List ℕ) → D x → Each D w → Each D (put_in x w)
+pub Each-put_in : (D : ℕ → Type 0) (x : ℕ) (w : List ℕ) → D x → Each D w → Each D (put_in x w)
 Each-put_in D x [] dx all = (dx, tt)
 Each-put_in D x (y ∷ w) dx all = Each-put_in_case D x y w dx all (Each-put_in D x w dx all.1) (nat_le x y)
 

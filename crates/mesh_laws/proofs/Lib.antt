@@ -4,3 +4,4 @@ pub mod FaceSigns
 pub mod Taking
 pub mod FaceOf
 pub mod SignedFaces
+pub mod FaceLists

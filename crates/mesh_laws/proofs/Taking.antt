@@ -92,7 +92,7 @@ abbrev pub Ascends : List ℕ → Type 0
 Ascends [] = ⊤
 Ascends (x ∷ xs) = ((y : ℕ) → In y xs → x < y) × Ascends xs
 
-enters_first : (f : ℕ) (fs : List ℕ) → ((y : ℕ) → In y fs → f < y) → put_in f fs ≡ f ∷ fs
+pub enters_first : (f : ℕ) (fs : List ℕ) → ((y : ℕ) → In y fs → f < y) → put_in f fs ≡ f ∷ fs
 enters_first f [] h = refl
 enters_first f (y ∷ ys) h =
     let less : f < y = h y (inl refl) in

@@ -137,3 +137,21 @@ fn a_failure_leaves_a_front(rt: HostRuntime) -> Result<(), Fail> {
     }
     Ok(())
 }
+
+// After a failure at the second piece the sink has the first one.
+#[test]
+fn pieces_are_large(rt: HostRuntime) -> Result<(), Fail> {
+    let mut vertices = Vec::new(rt.alloc());
+    for i in 0..4000u32 {
+        vertices.push([i64::from(i), 1_000_000])?;
+    }
+    let mesh = Mesh {
+        vertices,
+        simplices: Vec::new(rt.alloc()),
+    };
+    let fail = Vec::from_slice(rt.alloc(), &[1])?;
+    let mut out = MemSink::new(rt.alloc(), 100_000, fail, 100_000)?;
+    assert_eq!(rt; write_mesh(&mesh, &mut out), Err(WriteFault(1)));
+    assert!(rt; out.bytes().len() >= 32_768);
+    Ok(())
+}
