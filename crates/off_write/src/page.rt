@@ -1,6 +1,6 @@
 //! Text that waits to be put.
 
-ghost use Rattle.std.specs.Prelude.{◌≡◌, ◌+◌, ◌≤◌, List, [], ◌∷◌, ◌++◌, length, ℤ};
+ghost use Rattle.std.specs.Prelude.{◌≡◌, ◌+◌, ◌≤◌, [], ◌∷◌, ◌++◌, length};
 ghost use Rattle.std.specs.Fmt.{decimal};
 ghost use Rattle.iso_model.specs.MeshText.{last_digits, millionths};
 ghost use Rattle.off_write.specs.Pages.{page_size};

@@ -1,67 +1,12 @@
-//! Texts of meshes, on a sink with ample room and on one that fails.
-
-ghost use Rattle.std.specs.Prelude.{◌≡◌, ◌<◌, ◌≤◌, ◌⊎◌, None, length, IfOk};
-ghost use Rattle.iso_base.specs.Faults.{CountsFaults};
+//! Texts of meshes, put to a sink with ample room and to one that fails.
 
 use crate::write::{WriteFault, write_mesh};
-use iso_base::{Failed, Sink};
+use iso_base::MemSink;
 use mesh_laws::Mesh;
 use std::alloc::{AllocError, Global};
 use std::test::Fail;
 
 const ROOM: usize = 1024;
-
-// Takes at most `step` bytes a call, and fails the call with the number `fails`, counted from 0.
-#[derive(Drop)]
-struct Notes {
-    bytes: [u8; ROOM],
-    filled: usize,
-    step: usize,
-    calls: u64,
-    fails: u64,
-    faults: u64,
-    ghost in_room: { filled ≤ 1024 },
-    ghost some: { 0 < step },
-}
-
-impl Notes {
-    fn new(step: usize, fails: u64) -> Notes
-        requires { 0 < step }
-    {
-        Notes {
-            bytes: [0; ROOM],
-            filled: 0,
-            step,
-            calls: 0,
-            fails,
-            faults: 0,
-        }
-    }
-
-    fn text(&self) -> &[u8] {
-        &self.bytes[..self.filled]
-    }
-}
-
-impl Sink for Notes {
-    ghost bytes = { λ _. None };
-
-    ghost faults = { λ s. s.faults };
-
-    fn put(&mut self, buf: &[u8]) -> Result<usize, Failed> {
-        let call = self.calls;
-        self.calls = call.saturating_add(1);
-        if call == self.fails || self.filled == ROOM {
-            self.faults = self.faults.saturating_add(1);
-            return Err(Failed { count: self.faults });
-        }
-        let count = buf.len().min(self.step).min(ROOM - self.filled);
-        let end = self.filled + count;
-        self.bytes[self.filled..end].copy_from_slice(&buf[..count]);
-        self.filled = end;
-        Ok(count)
-    }
-}
 
 fn mesh_of<const D: usize>(
     alloc: Global,
@@ -111,9 +56,9 @@ fn in_two_dimensions(rt: HostRuntime) -> Result<(), Fail> {
     ];
     for (vertices, simplices, want) in cases {
         let mesh = mesh_of(rt.alloc(), vertices, simplices)?;
-        let mut out = Notes::new(ROOM, 99);
+        let mut out = MemSink::new(rt.alloc(), ROOM, Vec::new(rt.alloc()), ROOM)?;
         assert_eq!(rt; write_mesh(&mesh, &mut out), Ok(()));
-        assert_eq!(rt; out.text(), want.as_bytes());
+        assert_eq!(rt; out.bytes(), want.as_bytes());
     }
     Ok(())
 }
@@ -149,9 +94,9 @@ fn in_three_dimensions(rt: HostRuntime) -> Result<(), Fail> {
     ];
     for (vertices, simplices, want) in cases {
         let mesh = mesh_of(rt.alloc(), vertices, simplices)?;
-        let mut out = Notes::new(7, 999);
+        let mut out = MemSink::new(rt.alloc(), ROOM, Vec::new(rt.alloc()), 7)?;
         assert_eq!(rt; write_mesh(&mesh, &mut out), Ok(()));
-        assert_eq!(rt; out.text(), want.as_bytes());
+        assert_eq!(rt; out.bytes(), want.as_bytes());
     }
     Ok(())
 }
@@ -168,21 +113,45 @@ fn in_four_dimensions(rt: HostRuntime) -> Result<(), Fail> {
         ],
         &[[0, 1, 2, 3]],
     )?;
-    let mut out = Notes::new(ROOM, 99);
+    let mut out = MemSink::new(rt.alloc(), ROOM, Vec::new(rt.alloc()), ROOM)?;
     assert_eq!(rt; write_mesh(&mesh, &mut out), Ok(()));
     let want =
         "nOFF\n4\n4 1 0\n0.500000 0.000000 0.000000 0.000000\n0.000000 0.500000 0.000000 0.000000\n0.000000 0.000000 0.500000 0.000000\n0.000000 0.000000 0.000000 0.500000\n4 0 1 2 3\n";
-    assert_eq!(rt; out.text(), want.as_bytes());
+    assert_eq!(rt; out.bytes(), want.as_bytes());
     Ok(())
 }
 
 #[test]
 fn a_failure_leaves_a_front(rt: HostRuntime) -> Result<(), Fail> {
     let mesh = mesh_of(rt.alloc(), &[[500_000, 0], [0, 500_000]], &[[0, 1]])?;
-    for (step, fails, want) in [(1, 0, ""), (1, 1, "n"), (5, 2, "nOFF\n2\n2 1")] {
-        let mut out = Notes::new(step, fails);
+    for (step, fails, want) in [
+        (1, 0, ""),
+        (1, 1, "n"),
+        (5, 2, "nOFF\n2\n2 1"),
+        (9, 9, "nOFF\n2\n2 1 0\n0.500000 0"),
+    ] {
+        let fail = Vec::from_slice(rt.alloc(), &[fails])?;
+        let mut out = MemSink::new(rt.alloc(), 23, fail, step)?;
         assert_eq!(rt; write_mesh(&mesh, &mut out), Err(WriteFault(1)));
-        assert_eq!(rt; out.text(), want.as_bytes());
+        assert_eq!(rt; out.bytes(), want.as_bytes());
     }
+    Ok(())
+}
+
+// After a failure at the second piece the sink has the first one.
+#[test]
+fn pieces_are_large(rt: HostRuntime) -> Result<(), Fail> {
+    let mut vertices = Vec::new(rt.alloc());
+    for i in 0..4000u32 {
+        vertices.push([i64::from(i), 1_000_000])?;
+    }
+    let mesh = Mesh {
+        vertices,
+        simplices: Vec::new(rt.alloc()),
+    };
+    let fail = Vec::from_slice(rt.alloc(), &[1])?;
+    let mut out = MemSink::new(rt.alloc(), 100_000, fail, 100_000)?;
+    assert_eq!(rt; write_mesh(&mesh, &mut out), Err(WriteFault(1)));
+    assert!(rt; out.bytes().len() >= 32_768);
     Ok(())
 }

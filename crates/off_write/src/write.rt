@@ -1,7 +1,6 @@
 //! Putting a mesh's text to a sink.
 
-ghost use Rattle.std.specs.Prelude.{◌≡◌, ◌+◌, ◌≤◌, ◌⊎◌, List, [], ◌∷◌, ◌++◌, length, map, flat_map, OnOk, OnErr, IfErr};
-ghost use Rattle.std.specs.Fmt.{decimal};
+ghost use Rattle.std.specs.Prelude.{◌≡◌, ◌+◌, ◌≤◌, ◌⊎◌, [], ◌++◌, length, OnOk, OnErr, IfErr};
 ghost use Rattle.std.specs.Io.KnownBytes.{Appends};
 ghost use Rattle.iso_base.specs.Faults.{Rose, CountsFaults};
 ghost use Rattle.iso_base.specs.Fronts.{AppendsFront};
@@ -19,7 +18,7 @@ use mesh_laws::Mesh;
 #[derive(Clone, Copy, Debug, PartialEq, Eq, Drop)]
 pub struct WriteFault(pub u64);
 
-// What no line is longer than.
+// No line of a mesh's text is longer.
 const LINE_SIZE: usize = 128;
 
 // Puts the page, and empties it.
@@ -34,7 +33,7 @@ fn put_page<O: Sink>(page: &mut Page, out: &mut O) -> Result<(), Failed>
     Ok(())
 }
 
-// Puts the page where a line might find no room in it.
+// Puts the page where less room than for a line is left in it, so that each piece but the last is nearly a page.
 fn make_room<O: Sink>(page: &mut Page, out: &mut O) -> Result<(), Failed>
     ensures faults { CountsFaults (O.faults out.old) (O.faults out.new) result }
     ensures waits { OnOk result (AllButPage (O.bytes out.old) (O.bytes out.new) page.old page.new) }
