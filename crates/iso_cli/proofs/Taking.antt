@@ -1,5 +1,5 @@
 -- Bytes taken off the front of known bytes.
-use Rattle.std.proofs.Common.{◌≡◌, ℕ, ◌+◌, ◌≤◌, length, List, [], ◌++◌, take, Option, Some, None, Ok, append_assoc, refl, arith, sym, subst, ◌∙◌, ap, rules, min}
+use Rattle.std.proofs.Common.{◌≡◌, ℕ, ◌+◌, ◌≤◌, ◌<◌, length, List, [], ◌++◌, take, Option, Some, None, Ok, append_assoc, refl, arith, sym, subst, ◌∙◌, ap, rules, min}
 use Rattle.std.proofs.lemmas.List.{take_all, length-take}
 use Rattle.std.proofs.lemmas.Option.{none-some}
 use Rattle.std.specs.Prelude.{unwrap_or}
@@ -38,3 +38,12 @@ front-whole (Some files) name bytes (Some rest) n front there begun is few =
     let same : rest ≡ bytes = Some-same rest bytes (begun.0 ∙ there) in
     let short : length rest ≤ n = short-front n rest (subst (λ (xs : List ℕ). length xs ≤ n) is few) in
     is ∙ take_all (n + 1) rest (omega (arith, short)) ∙ same
+
+-- a file that was begun and gave more bytes than are allowed has too many
+pub front-long : (files : Option Files) (name bytes : List ℕ) (rest : Option (List ℕ)) (n : ℕ) (front : List ℕ) → bytes_of files name ≡ Some bytes → BeginsFile {E = Failed} files rest name (Ok tt) → AreFrontOf (n + 1) rest front → n < length front → n < length bytes
+front-long None name bytes rest n front there begun is many = absurd (none-some _ there)
+front-long (Some files) name bytes None n front there begun is many = absurd (none-some _ (begun.0 ∙ there))
+front-long (Some files) name bytes (Some rest) n front there begun is many =
+    let same : rest ≡ bytes = Some-same rest bytes (begun.0 ∙ there) in
+    let far : n < length (take (n + 1) rest) = subst (λ (xs : List ℕ). n < length xs) is many in
+    subst (λ (xs : List ℕ). n < length xs) same (let e = length-take (n + 1) rest in omega (arith, e, far))

@@ -8,9 +8,13 @@ use Rattle.iso_base.specs.Fronts.{AppendsFront}
 use Rattle.iso_model.specs.Commands.{Command, Say, SayExtract, generate_command, check_command, extract_command, demo_command}
 use Rattle.iso_model.specs.Faces.{Mesh, IsMesh}
 use Rattle.iso_model.specs.MeshText.{mesh_text}
-use Rattle.iso_model.specs.TableFile.{IsTooLong, IsWholeTable}
+use Rattle.iso_model.specs.TableFile.{IsTooLong, IsWholeTable, TableFault, HasTableFault, magic_fault, kind_fault, edge_fault, short_fault, extra_fault}
 use Rattle.iso_cli.specs.declared.status.Status.{Status}
 use Rattle.iso_cli.specs.declared.status.Status.TheVariants as Statuses
+use Rattle.iso_cli.specs.declared.status.TableForm.{TableForm}
+use Rattle.iso_cli.specs.declared.status.TableForm.TheVariants as Forms
+use Rattle.iso_cli.specs.declared.status.TableCause.{TableCause}
+use Rattle.iso_cli.specs.declared.status.TableCause.TheVariants as TableCauses
 
 -- ---- the files
 
@@ -29,13 +33,45 @@ HasFile files name = IsSome (bytes_of files name)
 abbrev pub HasNamedFiles : Option Files → List (List ℕ) → Type 0
 HasNamedFiles files words = (command : Command) → Say words command → AllByRecursion (HasFile files) (files_named command)
 
+-- ---- the table
+
+-- the bytes are those of a table, and not too many
+abbrev pub IsRightTable : List ℕ → Type 0
+IsRightTable bytes = ¬ IsTooLong bytes × IsWholeTable bytes
+
+-- the fault of a table file, by its cause and place
+abbrev pub table_fault : TableCause → ℕ → TableFault
+table_fault TableCauses.Magic place = magic_fault place
+table_fault TableCauses.Kind place = kind_fault place
+table_fault TableCauses.EdgeNumber place = edge_fault place
+table_fault TableCauses.Short place = short_fault place
+table_fault TableCauses.Extra place = extra_fault place
+
+-- the bytes are no table in this way: there are too many, or else they have this fault
+abbrev pub HasForm : TableForm → List ℕ → Type 0
+HasForm Forms.Long bytes = IsTooLong bytes
+HasForm (Forms.Fault place cause) bytes = ¬ IsTooLong bytes × HasTableFault bytes (table_fault cause place)
+
+-- where the status says that the bytes are no table, they are none in the way that it says
+abbrev pub IsTrueOfTable : Status → List ℕ → Type 0
+IsTrueOfTable (Statuses.TableForm form) bytes = HasForm form bytes
+IsTrueOfTable status bytes = ⊤
+
 -- a file of this name is there, and holds no table
 abbrev pub HoldsNoTable : Option Files → List ℕ → Type 0
-HoldsNoTable files name = (bytes : List ℕ) × (bytes_of files name ≡ Some bytes) × ¬ (¬ IsTooLong bytes × IsWholeTable bytes)
+HoldsNoTable files name = (bytes : List ℕ) × (bytes_of files name ≡ Some bytes) × ¬ IsRightTable bytes
 
 -- the words ask for a mesh, by a file that is there and holds no table
 abbrev pub NamesNoTable : Option Files → List (List ℕ) → Type 0
 NamesNoTable files words = (table : List ℕ) × (grid : List ℕ) × (iso : ℤ) × SayExtract words table grid iso × HoldsNoTable files table
+
+-- what holds of the bytes of a file, where the files are told
+abbrev pub FileHas : Option Files → List ℕ → (List ℕ → Type 0) → Type 0
+FileHas files name P = (bytes : List ℕ) → bytes_of files name ≡ Some bytes → P bytes
+
+-- what holds of the bytes of the table by which the words ask for a mesh, where the files are told
+abbrev pub TableHas : Option Files → List (List ℕ) → (List ℕ → Type 0) → Type 0
+TableHas files words P = (table grid : List ℕ) (iso : ℤ) → SayExtract words table grid iso → FileHas files table P
 
 -- ---- the output
 

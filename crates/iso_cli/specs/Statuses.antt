@@ -24,12 +24,35 @@ abbrev pub IsWriteFault : Status → Type 0
 IsWriteFault (Statuses.WriteFault count) = ⊤
 IsWriteFault status = ⊥
 
--- a refusal that reading the files may end with
-abbrev pub IsOfFiles : Status → Type 0
-IsOfFiles Statuses.Done = ⊥
-IsOfFiles (Statuses.Usage place) = ⊥
-IsOfFiles (Statuses.WriteFault count) = ⊥
-IsOfFiles status = ⊤
+-- a refusal that taking bytes of a file may end with
+abbrev pub IsOfReading : Status → Type 0
+IsOfReading Statuses.Memory = ⊤
+IsOfReading (Statuses.ShelfFault count) = ⊤
+IsOfReading status = ⊥
+
+-- a refusal that reading the table may end with
+abbrev pub IsOfTable : Status → Type 0
+IsOfTable Statuses.Memory = ⊤
+IsOfTable (Statuses.ShelfFault count) = ⊤
+IsOfTable (Statuses.TableForm form) = ⊤
+IsOfTable status = ⊥
+
+-- a refusal that reading the grid may end with
+abbrev pub IsOfGrid : Status → Type 0
+IsOfGrid Statuses.Memory = ⊤
+IsOfGrid (Statuses.ShelfFault count) = ⊤
+IsOfGrid (Statuses.GridForm cause) = ⊤
+IsOfGrid (Statuses.GridLarge count) = ⊤
+IsOfGrid (Statuses.Unfit table grid) = ⊤
+IsOfGrid status = ⊥
+
+-- the run ended before the grid was begun
+abbrev pub IsBeforeGrid : Status → Type 0
+IsBeforeGrid Statuses.Memory = ⊤
+IsBeforeGrid (Statuses.Usage place) = ⊤
+IsBeforeGrid (Statuses.ShelfFault count) = ⊤
+IsBeforeGrid (Statuses.TableForm form) = ⊤
+IsBeforeGrid status = ⊥
 
 -- memory was refused, or a form is not built yet
 abbrev pub IsMemoryOrNotYet : Status → Type 0

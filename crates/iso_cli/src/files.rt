@@ -1,12 +1,13 @@
 //! The table and the grid that the words name.
 
-ghost use Rattle.std.specs.Prelude.{◌≡◌, ℕ, List, Some, IsSome, IfOk, IfErr};
+ghost use Rattle.std.specs.Prelude.{IsSome, IfOk, IfErr};
 ghost use Rattle.iso_base.specs.Files.{bytes_of};
 ghost use Rattle.iso_model.specs.TableFile.{IsTooLong, SpellsTable};
 ghost use Rattle.iso_model.specs.Values.{IsRegularGrid};
 ghost use Rattle.table_file.specs.Reading.{table_in};
 ghost use Rattle.iso_cli.specs.Shelves.{IsSameShelf, BlamesShelf};
-ghost use Rattle.iso_cli.specs.Statuses.{IsOfFiles, IsShelfFault};
+ghost use Rattle.iso_cli.specs.Statuses.{IsOfGrid, IsOfTable, IsShelfFault};
+ghost use Rattle.iso_cli.specs.Runs.{FileHas, IsTrueOfTable};
 
 use crate::read::read_front;
 use crate::status::{Status, TableForm};
@@ -23,8 +24,9 @@ pub fn read_table<S: Shelf>(alloc: Global, shelf: &mut S, name: &str) -> Result<
     ensures shelf { IsSameShelf S.faults S.files S.sound shelf.old shelf.new }
     ensures fault { IfErr result (λ status. BlamesShelf status (S.faults shelf.old) (S.faults shelf.new)) }
     ensures sound { S.sound shelf.old → IsSome (bytes_of (S.files shelf.old) name.now) → IfErr result (λ status. ¬ IsShelfFault status) }
-    ensures refused { IfErr result IsOfFiles }
-    ensures table { (bytes : List ℕ) → bytes_of (S.files shelf.old) name.now ≡ Some bytes → IfOk result (λ table. ¬ IsTooLong bytes × SpellsTable bytes (table_in table)) }
+    ensures refused { IfErr result IsOfTable }
+    ensures form { FileHas (S.files shelf.old) name.now (λ bytes. IfErr result (λ status. IsTrueOfTable status bytes)) }
+    ensures table { FileHas (S.files shelf.old) name.now (λ bytes. IfOk result (λ table. ¬ IsTooLong bytes × SpellsTable bytes (table_in table))) }
 {
     shelf.begin(name)?;
     let bytes = read_front(alloc, shelf, TABLE_LIMIT + 1)?;
@@ -44,7 +46,7 @@ pub fn read_grid<S: Shelf>(
     ensures shelf { IsSameShelf S.faults S.files S.sound shelf.old shelf.new }
     ensures fault { IfErr result (λ status. BlamesShelf status (S.faults shelf.old) (S.faults shelf.new)) }
     ensures sound { S.sound shelf.old → IsSome (bytes_of (S.files shelf.old) name.now) → IfErr result (λ status. ¬ IsShelfFault status) }
-    ensures refused { IfErr result IsOfFiles }
+    ensures refused { IfErr result IsOfGrid }
     ensures regular { IfOk result IsRegularGrid }
 {
     shelf.begin(name)?;

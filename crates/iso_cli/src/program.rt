@@ -1,16 +1,16 @@
 //! The top call.
 
-ghost use Rattle.std.specs.Prelude.{◌≡◌, ◌≤◌, ℕ, OnOk, IfErr, IfOk};
+ghost use Rattle.std.specs.Prelude.{◌≡◌, ◌≤◌, ℕ, OnOk, IfErr, IfOk, MatchResult};
 ghost use Rattle.std.specs.Io.KnownBytes.{Appends};
 ghost use Rattle.iso_base.specs.Faults.{Rose};
 ghost use Rattle.iso_base.specs.Fronts.{AppendsFront};
-ghost use Rattle.iso_model.specs.Commands.{IsWrongWord};
+ghost use Rattle.iso_model.specs.Commands.{AreRight, IsWrongWord};
 ghost use Rattle.iso_model.specs.Faces.{IsMesh};
 ghost use Rattle.iso_model.specs.Values.{IsRegularGrid};
 ghost use Rattle.iso_words.specs.Built.{is_built, texts};
-ghost use Rattle.iso_cli.specs.Runs.{HasFile, HasNamedFiles, HoldsNoTable, NamesNoTable, BlamesOutput, PutsMesh, PutsFrontOfMesh};
+ghost use Rattle.iso_cli.specs.Runs.{HasFile, HasNamedFiles, FileHas, TableHas, HoldsNoTable, NamesNoTable, IsRightTable, IsTrueOfTable, BlamesOutput, PutsMesh, PutsFrontOfMesh};
 ghost use Rattle.iso_cli.specs.Shelves.{IsSameShelf, BlamesShelf};
-ghost use Rattle.iso_cli.specs.Statuses.{IsMemoryOrNotYet, IsRefusal, IsShelfFault, IsUsage, IsWriteFault};
+ghost use Rattle.iso_cli.specs.Statuses.{IsBeforeGrid, IsMemoryOrNotYet, IsRefusal, IsShelfFault, IsUsage, IsWriteFault};
 ghost use Rattle.iso_cli.specs.StatusLines.{status_line};
 
 use crate::files::{read_grid, read_table};
@@ -38,6 +38,11 @@ pub fn run<S: Shelf, O: Sink, E: Sink>(
 ) -> Status
     // The words.
     ensures usage { (place : ℕ) → result ≡ Status.Usage place → IsWrongWord is_built (texts words.now) place × (shelf.new ≡ shelf.old) }
+    ensures wrong_words { ¬ AreRight is_built (texts words.now) → IsUsage result }
+
+    // The table.
+    ensures table_form { TableHas (S.files shelf.old) (texts words.now) (IsTrueOfTable result) }
+    ensures past_table { ¬ IsBeforeGrid result → TableHas (S.files shelf.old) (texts words.now) IsRightTable }
 
     // The shelf.
     ensures shelf { IsSameShelf S.faults S.files S.sound shelf.old shelf.new }
@@ -69,6 +74,9 @@ pub fn run<S: Shelf, O: Sink, E: Sink>(
 // What the words ask.
 fn perform<S: Shelf, O: Sink>(alloc: Global, words: &[String], shelf: &mut S, out: &mut O) -> Status
     ensures usage { (place : ℕ) → result ≡ Status.Usage place → IsWrongWord is_built (texts words.now) place × (shelf.new ≡ shelf.old) }
+    ensures wrong_words { ¬ AreRight is_built (texts words.now) → IsUsage result }
+    ensures table_form { TableHas (S.files shelf.old) (texts words.now) (IsTrueOfTable result) }
+    ensures past_table { ¬ IsBeforeGrid result → TableHas (S.files shelf.old) (texts words.now) IsRightTable }
     ensures shelf { IsSameShelf S.faults S.files S.sound shelf.old shelf.new }
     ensures shelf_fault { BlamesShelf result (S.faults shelf.old) (S.faults shelf.new) }
     ensures sound_shelf { S.sound shelf.old → HasNamedFiles (S.files shelf.old) (texts words.now) → ¬ IsShelfFault result }
@@ -101,6 +109,8 @@ fn extract<S: Shelf, O: Sink>(
     out: &mut O,
 ) -> Result<(), Status>
     ensures known { IfErr result (λ status. ¬ IsUsage status) }
+    ensures table_form { FileHas (S.files shelf.old) table.now (λ bytes. IfErr result (λ status. IsTrueOfTable status bytes)) }
+    ensures past_table { FileHas (S.files shelf.old) table.now (λ bytes. MatchResult result (λ _. IsRightTable bytes) (λ status. ¬ IsBeforeGrid status → IsRightTable bytes)) }
     ensures shelf { IsSameShelf S.faults S.files S.sound shelf.old shelf.new }
     ensures shelf_fault { IfErr result (λ status. BlamesShelf status (S.faults shelf.old) (S.faults shelf.new)) }
     ensures sound_shelf { S.sound shelf.old → HasFile (S.files shelf.old) table.now → HasFile (S.files shelf.old) grid.now → IfErr result (λ status. ¬ IsShelfFault status) }

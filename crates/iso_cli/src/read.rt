@@ -2,7 +2,7 @@
 
 ghost use Rattle.std.specs.Prelude.{◌≡◌, ◌≤◌, length, IfOk, IfErr};
 ghost use Rattle.iso_cli.specs.Shelves.{IsSameShelf, BlamesShelf, TakesAtMost, AreFrontOf};
-ghost use Rattle.iso_cli.specs.Statuses.{IsOfFiles, IsShelfFault};
+ghost use Rattle.iso_cli.specs.Statuses.{IsOfReading, IsShelfFault};
 
 use crate::status::Status;
 use iso_base::Shelf;
@@ -16,7 +16,7 @@ pub fn read_front<S: Shelf>(alloc: Global, shelf: &mut S, most: usize) -> Result
     ensures shelf { IsSameShelf S.faults S.files S.sound shelf.old shelf.new }
     ensures fault { IfErr result (λ status. BlamesShelf status (S.faults shelf.old) (S.faults shelf.new)) }
     ensures sound { S.sound shelf.old → IfErr result (λ status. ¬ IsShelfFault status) }
-    ensures refused { IfErr result IsOfFiles }
+    ensures refused { IfErr result IsOfReading }
     ensures taken { TakesAtMost most (S.rest shelf.old) (S.rest shelf.new) }
     ensures front { IfOk result (λ bytes. AreFrontOf most (S.rest shelf.old) bytes.items) }
     ensures few { IfOk result (λ bytes. length bytes.items ≤ most) }
