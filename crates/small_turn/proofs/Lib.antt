@@ -1,0 +1,6 @@
+pub mod Cramer
+pub mod Planes
+pub mod PointLaws
+pub mod RowLaws
+pub mod TurnExpr
+pub mod TurnLaws
