@@ -1,5 +1,5 @@
 -- Sums and products of bounded whole numbers are bounded, and what is bounded fits its machine type and is read back from it.
-use Rattle.std.proofs.Common.{refl, ◌≢◌, w32, set, below_more, get_or-set_same, get_or-set_other, zero, suc, [], ◌∷◌, ◌≡◌, ◌∙◌, ap, length, List, get_or, to_z, of_z, lit<, ℕ, ℤ, pos, ◌+◌, ◌*◌, ◌^◌, ◌<◌, ◌≤◌, ◌+ℤ◌, ◌-ℤ◌, ◌*ℤ◌, neg_ℤ, arith, FitsSigned, w64, subst, sym}
+use Rattle.std.proofs.Common.{refl, ◌≢◌, w32, set, below_more, get_or-set_same, get_or-set_other, zero, suc, [], ◌∷◌, ◌≡◌, ◌∙◌, ap, length, List, get_or, to_z, of_z, ℕ, ℤ, pos, ◌+◌, ◌*◌, ◌^◌, ◌<◌, ◌≤◌, ◌+ℤ◌, ◌-ℤ◌, ◌*ℤ◌, neg_ℤ, arith, FitsSigned, w64, subst, sym}
 use Rattle.std.proofs.lemmas.Int.{ints, to_z-of_z, fits_signed_from_abs, unsigned_abs-mul}
 use Rattle.std.proofs.Math.Nat.{mul-le-mul}
 use Rattle.polynomials.specs.Small.{IsSmall, AreSmall}

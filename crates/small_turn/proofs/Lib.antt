@@ -2,5 +2,6 @@ pub mod Cramer
 pub mod Planes
 pub mod PointLaws
 pub mod RowLaws
+pub mod SpanLaws
 pub mod TurnExpr
 pub mod TurnLaws

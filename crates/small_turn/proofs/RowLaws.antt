@@ -1,8 +1,8 @@
 -- Bounds of products of rows, and the step of the loop that sums up such a product.
-use Rattle.std.proofs.Common.{zero, suc, [], ◌∷◌, ◌≡◌, ◌∙◌, ap, length, List, get_or, drop, lit<, ℕ, ℤ, pos, ◌+◌, ◌*◌, ◌^◌, ◌<◌, ◌≤◌, ◌+ℤ◌, ◌-ℤ◌, ◌*ℤ◌, arith, FitsSigned, w64, sym}
+use Rattle.std.proofs.Common.{zero, suc, [], ◌∷◌, ◌≡◌, ◌∙◌, ap, length, List, get_or, drop, lit<, ℕ, ℤ, pos, ◌+◌, ◌*◌, ◌^◌, ◌<◌, ◌≤◌, ◌+ℤ◌, ◌-ℤ◌, ◌*ℤ◌, arith, FitsSigned, w64, sym, subst}
 use Rattle.std.proofs.Math.IntN.{+ℤ_assoc}
 use Rattle.polynomials.specs.Small.{IsSmall, AreSmall}
-use Rattle.polynomials.proofs.SmallLaws.{small-add, small-sub, small-mul, small-fits, AreSmall-cons}
+use Rattle.polynomials.proofs.SmallLaws.{small-add, small-sub, small-mul, small-fits, small-weaken, AreSmall-cons}
 use Rattle.iso_model.specs.Orders.{without}
 use Rattle.iso_model.specs.Turns.{dot, minus}
 use Rattle.small_turn.proofs.PointLaws.{dot-drop}
@@ -69,3 +69,9 @@ AreSmall-minus m n (x ∷ xs) [] p q = λ k d h. absurd (omega arith)
 AreSmall-minus m n (x ∷ xs) (y ∷ ys) p q =
     AreSmall-cons (m + n) (x -ℤ y) (minus xs ys) (small-sub m n x y (p 0 x (omega arith)) (q 0 y (omega arith)))
     (AreSmall-minus m n xs ys (λ k d h. p (suc k) d (omega arith)) (λ k d h. q (suc k) d (omega arith)))
+
+-- the product of a normal and a point of the size that `hyper` takes
+pub bound_small : (n p : List ℤ) (r : ℤ) → length p ≤ 4 → r ≡ dot n p → AreSmall (2 ^ 21) n → AreSmall 32 p → IsSmall (2 ^ 28) r
+bound_small n p r few e h k =
+    subst (λ (z : ℤ). IsSmall (2 ^ 28) z) (sym e)
+    (small-weaken (length p * (2 ^ 21 * 32)) (2 ^ 28) (dot n p) (small-dot (2 ^ 21) 32 n p h k) (omega arith))

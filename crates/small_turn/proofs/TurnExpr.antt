@@ -1,5 +1,5 @@
 -- The expressions of which turns and products are the values, for the ring solver.
-use Rattle.std.specs.Prelude.{ℕ, ◌+◌, ◌%◌, ◌==◌, pos, List, [], ◌∷◌, map, length, get_or, Bool, if◌then◌else◌}
+use Rattle.std.specs.Prelude.{ℕ, ◌+◌, pos, List, [], ◌∷◌, map, length, get_or, Bool, if◌then◌else◌}
 use Rattle.polynomials.proofs.Ring.{Expr, con, ◌⊕◌, ◌⊖◌, ◌⊗◌, neg}
 use Rattle.iso_model.specs.Orders.{orders, is_odd, is_odd_order, numbers, without}
 

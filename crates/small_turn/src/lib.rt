@@ -1,9 +1,18 @@
-// Turns of small rows.
+//! Turns of small rows, and the half-space through D points, in two, three and four dimensions.
+//!
+//! The turn of D rows of D whole numbers is their determinant: the signed sum, over all D! orders of the columns, of
+//! the products of one number of each row. Its sign tells on which side of a hyperplane a point lies. All sums are
+//! taken in 64 bits, and the conditions on the entries keep each of them far from wrapping.
+//!
+//! For proofs above this crate: `proofs/TurnLaws` has the expansion along the last row, `proofs/TurnExpr` writes a
+//! turn as an expression for the solver of `polynomials`, `proofs/Planes` has `turn_laws` (expansion and Cramer's
+//! rule for each dimension) with what follows for half-spaces through D points, `proofs/SpanLaws` says when such
+//! points span a hyperplane, and `proofs/RowLaws` bounds products of rows.
 #![tactic(auto)]
 
-ghost use Rattle.std.specs.Prelude.{◌≡◌, ◌+◌, ◌-◌, ◌*◌, ◌^◌, ◌<◌, ◌≤◌, ℤ, pos, negsuc, ◌+ℤ◌, ◌*ℤ◌, ◌-ℤ◌, neg_ℤ, ◌∷◌, [], All, length};
+ghost use Rattle.std.specs.Prelude.{◌≡◌, ◌↔◌, ◌+◌, ◌-◌, ◌*◌, ◌^◌, ◌<◌, ◌≤◌, ℤ, List, pos, negsuc, ◌+ℤ◌, ◌*ℤ◌, ◌-ℤ◌, neg_ℤ, ◌∷◌, [], All, length};
 ghost use Rattle.iso_model.specs.Orders.{without};
-ghost use Rattle.iso_model.specs.Turns.{turn, dot, cofactors, minus, hyper};
+ghost use Rattle.iso_model.specs.Turns.{turn, dot, cofactors, minus, hyper, rows_to, HasNormal, Spans};
 ghost use Rattle.polynomials.specs.Small.{IsSmall, AreSmall};
 
 // The sum of the products, place by place.
@@ -128,7 +137,8 @@ fn wide<const D: usize, const N: usize>(row: &[i32; D]) -> [i64; N]
     out
 }
 
-/// The signed sum, over all orders of the columns, of the products of one number of each row.
+/// The determinant of D rows of D whole numbers: the signed sum, over all D! orders of the columns, of the products
+/// of one number of each row. D is 2, 3 or 4, and each entry lies from -64 to 64.
 pub fn turn<const D: usize>(rows: &[[i32; D]; D]) -> i64
     requires least { 2 ≤ D }
     requires greatest { D ≤ 4 }
@@ -153,8 +163,8 @@ pub fn turn<const D: usize>(rows: &[[i32; D]; D]) -> i64
     }
 }
 
-/// A half-space: a point x is held where `normal . x` is at most `bound`.
-#[derive(Clone, Copy)]
+/// A half-space: a point x is held where `normal . x` is at most `bound`. It is tight at the points with equality.
+#[derive(Clone, Copy, Debug, PartialEq, Eq)]
 pub struct HalfSpace<const D: usize> {
     pub normal: [i64; D],
     pub bound: i64,
@@ -193,18 +203,35 @@ fn as_row<const N: usize, const D: usize>(row: &[i64; N]) -> [i64; D]
     out
 }
 
+// The half-space with this normal that is tight at the point.
+fn plane_at<const N: usize, const D: usize>(normal: &[i64; N], point: &[i64; N]) -> HalfSpace<D>
+    requires alike { N ≡ D }
+    requires few { D ≤ 4 }
+    requires coefficients { AreSmall (2 ^ 21) normal.now }
+    requires small { AreSmall 32 point.now }
+    ensures normal { result.normal ≡ normal.now }
+    ensures bound { result.bound ≡ dot normal.now point.now }
+    ensures constant { IsSmall (2 ^ 28) result.bound }
+{
+    HalfSpace {
+        normal: as_row(normal),
+        bound: dot(normal, point),
+    }
+}
+
 fn plane_of_two<const D: usize>(p: &[i64; 2], q: &[i64; 2]) -> HalfSpace<D>
     requires alike { D ≡ 2 }
     requires p_small { AreSmall 32 p.now }
     requires q_small { AreSmall 32 q.now }
     ensures normal { result.normal ≡ (hyper (p.now ∷ q.now ∷ [])).normal }
     ensures bound { result.bound ≡ (hyper (p.now ∷ q.now ∷ [])).bound }
+    ensures turns { (x : List ℤ) → length x ≡ D → dot result.normal x -ℤ result.bound ≡ turn (rows_to (p.now ∷ q.now ∷ []) x) }
+    ensures spans { HasNormal (record { normal = result.normal; bound = result.bound }) ↔ Spans (p.now ∷ q.now ∷ []) }
+    ensures coefficients { AreSmall (2 ^ 21) result.normal }
+    ensures constant { IsSmall (2 ^ 28) result.bound }
 {
     let normal = cofactors_of_one(&difference(q, p));
-    HalfSpace {
-        normal: as_row(&normal),
-        bound: dot(&normal, p),
-    }
+    plane_at(&normal, p)
 }
 
 fn plane_of_three<const D: usize>(p: &[i64; 3], q: &[i64; 3], r: &[i64; 3]) -> HalfSpace<D>
@@ -214,12 +241,13 @@ fn plane_of_three<const D: usize>(p: &[i64; 3], q: &[i64; 3], r: &[i64; 3]) -> H
     requires r_small { AreSmall 32 r.now }
     ensures normal { result.normal ≡ (hyper (p.now ∷ q.now ∷ r.now ∷ [])).normal }
     ensures bound { result.bound ≡ (hyper (p.now ∷ q.now ∷ r.now ∷ [])).bound }
+    ensures turns { (x : List ℤ) → length x ≡ D → dot result.normal x -ℤ result.bound ≡ turn (rows_to (p.now ∷ q.now ∷ r.now ∷ []) x) }
+    ensures spans { HasNormal (record { normal = result.normal; bound = result.bound }) ↔ Spans (p.now ∷ q.now ∷ r.now ∷ []) }
+    ensures coefficients { AreSmall (2 ^ 21) result.normal }
+    ensures constant { IsSmall (2 ^ 28) result.bound }
 {
     let normal = cofactors_of_two(&difference(q, p), &difference(r, p));
-    HalfSpace {
-        normal: as_row(&normal),
-        bound: dot(&normal, p),
-    }
+    plane_at(&normal, p)
 }
 
 fn plane_of_four<const D: usize>(
@@ -235,21 +263,29 @@ fn plane_of_four<const D: usize>(
     requires s_small { AreSmall 32 s.now }
     ensures normal { result.normal ≡ (hyper (p.now ∷ q.now ∷ r.now ∷ s.now ∷ [])).normal }
     ensures bound { result.bound ≡ (hyper (p.now ∷ q.now ∷ r.now ∷ s.now ∷ [])).bound }
+    ensures turns { (x : List ℤ) → length x ≡ D → dot result.normal x -ℤ result.bound ≡ turn (rows_to (p.now ∷ q.now ∷ r.now ∷ s.now ∷ []) x) }
+    ensures spans { HasNormal (record { normal = result.normal; bound = result.bound }) ↔ Spans (p.now ∷ q.now ∷ r.now ∷ s.now ∷ []) }
+    ensures coefficients { AreSmall (2 ^ 21) result.normal }
+    ensures constant { IsSmall (2 ^ 28) result.bound }
 {
     let normal = cofactors_of_three(&difference(q, p), &difference(r, p), &difference(s, p));
-    HalfSpace {
-        normal: as_row(&normal),
-        bound: dot(&normal, p),
-    }
+    plane_at(&normal, p)
 }
 
-/// The half-space through D points.
+/// The half-space through D points. For each point x, `normal . x - bound` is the turn of the rows from the first
+/// point to each other one and, last, to x. So it is tight at the points themselves, and at all points of their
+/// hyperplane. The normal is zero exactly where the points do not span a hyperplane. D is 2, 3 or 4, and each
+/// coordinate lies from -32 to 32; the coefficients are then at most 2^21 in size, and the bound at most 2^28.
 pub fn hyper<const D: usize>(points: &[[i32; D]; D]) -> HalfSpace<D>
     requires least { 2 ≤ D }
     requires greatest { D ≤ 4 }
     requires small { All (λ p. AreSmall 32 p) points.now }
     ensures normal { result.normal ≡ (hyper points.now).normal }
     ensures bound { result.bound ≡ (hyper points.now).bound }
+    ensures turns { (x : List ℤ) → length x ≡ D → dot result.normal x -ℤ result.bound ≡ turn (rows_to points.now x) }
+    ensures spans { HasNormal (record { normal = result.normal; bound = result.bound }) ↔ Spans points.now }
+    ensures coefficients { AreSmall (2 ^ 21) result.normal }
+    ensures constant { IsSmall (2 ^ 28) result.bound }
 {
     if D == 2 {
         plane_of_two(&wide(&points[0]), &wide(&points[1]))
@@ -262,5 +298,72 @@ pub fn hyper<const D: usize>(points: &[[i32; D]; D]) -> HalfSpace<D>
             &wide(&points[2]),
             &wide(&points[3]),
         )
+    }
+}
+
+#[cfg(test)]
+mod tests {
+    use super::*;
+
+    #[test]
+    fn turns_of_known_determinants(rt: HostRuntime) {
+        for (rows, want) in [
+            ([[1, 0], [0, 1]], 1),
+            ([[3, 5], [3, 5]], 0),
+            ([[64, -64], [64, 64]], 8192),
+        ] {
+            assert_eq!(rt; turn(&rows), want);
+        }
+        // the Vandermonde determinant of 2, 3, 4, and an odd order of the axes
+        for (rows, want) in [
+            ([[1, 2, 4], [1, 3, 9], [1, 4, 16]], 2),
+            ([[0, 2, 0], [2, 0, 0], [0, 0, 2]], -8),
+        ] {
+            assert_eq!(rt; turn(&rows), want);
+        }
+        // 64 times a Hadamard matrix has the greatest determinant that the entries allow
+        for (rows, want) in [
+            (
+                [[1, 2, 3, 4], [5, 6, 7, 9], [2, -3, 0, 1], [4, 4, 1, 2]],
+                -51,
+            ),
+            (
+                [
+                    [64, 64, 64, 64],
+                    [64, -64, 64, -64],
+                    [64, 64, -64, -64],
+                    [64, -64, -64, 64],
+                ],
+                268435456,
+            ),
+        ] {
+            assert_eq!(rt; turn(&rows), want);
+        }
+    }
+
+    #[test]
+    fn half_spaces_through_points(rt: HostRuntime) {
+        for (points, normal, bound) in [
+            ([[0, 0], [2, 0]], [0, 2], 0),
+            ([[2, 1], [2, 1]], [0, 0], 0),
+        ] {
+            assert_eq!(rt; hyper(&points), HalfSpace { normal, bound });
+        }
+        let far = hyper(&[[32, -32, 32], [-32, 32, 32], [32, 32, -32]]);
+        assert_eq!(rt;
+            far,
+            HalfSpace {
+                normal: [-4096, -4096, -4096],
+                bound: -131072
+            }
+        );
+        let tilted = hyper(&[[2, 0, 0, 0], [0, 2, 0, 0], [0, 0, 2, 0], [0, 0, 0, 2]]);
+        assert_eq!(rt;
+            tilted,
+            HalfSpace {
+                normal: [-8, -8, -8, -8],
+                bound: -16
+            }
+        );
     }
 }
