@@ -15,8 +15,9 @@ ghost use Rattle.iso_model.specs.Orders.{without};
 ghost use Rattle.iso_model.specs.Turns.{turn, dot, cofactors, minus, hyper, rows_to, HasNormal, Spans};
 ghost use Rattle.polynomials.specs.Small.{IsSmall, AreSmall};
 
-// The sum of the products, place by place.
-fn dot<const N: usize>(xs: &[i64; N], ys: &[i64; N]) -> i64
+/// The inner product of two rows: the sum of the products, place by place. The rows have at most four numbers, those
+/// of the first at most 2^40 in size, those of the second from -64 to 64.
+pub fn dot<const N: usize>(xs: &[i64; N], ys: &[i64; N]) -> i64
     requires few { N ≤ 4 }
     requires left { AreSmall (2 ^ 40) xs.now }
     requires right { AreSmall 64 ys.now }
@@ -124,8 +125,8 @@ fn turn_four(a: &[i64; 4], b: &[i64; 4], c: &[i64; 4], d: &[i64; 4]) -> i64
     dot(&cofactors_of_three(a, b, c), d)
 }
 
-// The row in wider numbers.
-fn wide<const D: usize, const N: usize>(row: &[i32; D]) -> [i64; N]
+/// The row in numbers of 64 bits. `N` is `D`; numbers are from -64 to 64.
+pub fn wide<const D: usize, const N: usize>(row: &[i32; D]) -> [i64; N]
     requires alike { D ≡ N }
     requires small { AreSmall 64 row.now }
     ensures { result ≡ row.now }

@@ -1,0 +1,3 @@
+pub mod DivisorLaws
+pub mod SetNumbers
+pub mod SlackLaws

@@ -1,0 +1,52 @@
+//! Half-spaces of small whole numbers, and the facets of a finite set of points by the plain way.
+#![tactic(auto)]
+
+mod boundary;
+mod lowest_terms;
+
+pub use boundary::{slack, tight};
+pub use lowest_terms::reduce;
+
+#[cfg(test)]
+mod tests {
+    use super::*;
+    use small_turn::HalfSpace;
+
+    #[test]
+    fn half_spaces_in_lowest_terms(rt: HostRuntime) {
+        for (normal, bound, want, least) in [
+            ([4, -6], 8, [2, -3], 4),
+            ([0, 0], -9, [0, 0], -1),
+            ([0, 0], 0, [0, 0], 0),
+            ([1099511627776, -1099511627776], 1099511627776, [1, -1], 1),
+        ] {
+            assert_eq!(rt;
+                reduce(HalfSpace { normal, bound }),
+                HalfSpace {
+                    normal: want,
+                    bound: least
+                }
+            );
+        }
+    }
+
+    #[test]
+    fn points_at_a_boundary(rt: HostRuntime) {
+        // the half-space x + 2 y <= 4
+        let half = HalfSpace {
+            normal: [1, 2],
+            bound: 4,
+        };
+        assert_eq!(rt; slack(&half, &[1, 1]), 1);
+        assert_eq!(rt; slack(&half, &[64, -64]), 68);
+        assert_eq!(rt;
+            tight(&half, &[[0, 0], [4, 0], [0, 2], [-2, 3], [2, 2]]),
+            14
+        );
+        let steep = HalfSpace {
+            normal: [16777216; 4],
+            bound: -1099511627776,
+        };
+        assert_eq!(rt; slack(&steep, &[64; 4]), -1103806595072);
+    }
+}
