@@ -1,9 +1,9 @@
 -- Greatest common divisors of lists, number by number, and quotients by divisors.
-use Rattle.std.specs.Prelude.{◌≡◌, ◌≢◌, ℕ, zero, suc, ◌+◌, ◌%◌, ◌^◌, ◌<◌, ◌≤◌, ℤ, pos, negsuc, neg_ℤ, ◌+ℤ◌, ◌*ℤ◌, nat_abs, List, [], ◌∷◌, ◌++◌, map, length, All}
+use Rattle.std.specs.Prelude.{◌≡◌, ℕ, suc, ◌^◌, ◌<◌, ◌≤◌, ℤ, pos, negsuc, neg_ℤ, ◌+ℤ◌, ◌*ℤ◌, nat_abs, List, [], ◌∷◌, ◌++◌, map, length, All}
 use Rattle.std.specs.Int.{◌∣◌, IsGcd}
-use Rattle.std.proofs.Common.{refl, arith, ap, sym, subst, ◌∙◌, get_or, to_z, of_z, w64, FitsSigned, lit<}
+use Rattle.std.proofs.Common.{refl, arith, ap, sym, subst, ◌∙◌, get_or, to_z, of_z, w64, FitsSigned}
 use Rattle.std.proofs.Math.Nat.{eq-zero_of_zero-dvd}
-use Rattle.std.proofs.lemmas.Int.{ints, quot-rem, quot_is, quot_fits, to_z_pos, fits_signed_from_abs}
+use Rattle.std.proofs.lemmas.Int.{ints, quot-rem, quot_is, quot_fits, fits_signed_from_abs}
 use Rattle.std.proofs.lemmas.Nat.Gcd.{dvd_refl, dvd_trans, mod-eq-zero_of_dvd}
 use Rattle.std.proofs.lemmas.List.Elements.{All-nil, All-cons, All-head, All-tail, All-push, All-weaker, Contains-get_or, Contains-append_left, Contains-push, All-contains}
 use lib.Signed.{quot_z, rem_z, ◌<ℤ◌}

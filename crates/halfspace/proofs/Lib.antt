@@ -1,3 +1,5 @@
 pub mod DivisorLaws
+pub mod Exchange
+pub mod SameSide
 pub mod SetNumbers
 pub mod SlackLaws

@@ -1,5 +1,5 @@
 -- One more point: its bit is set where its slack is 0.
-use Rattle.std.proofs.Common.{◌≡◌, ◌<◌, ◌∙◌, ℕ, ℤ, List, [], Bool, pos, slice_index_or, ap, sym, arith}
+use Rattle.std.proofs.Common.{◌≡◌, ◌<◌, ◌∙◌, ℕ, ℤ, List, [], pos, slice_index_or, ap, sym, arith}
 use Rattle.iso_model.specs.Turns.{slack, same_int}
 use Rattle.halfspace.proofs.SetNumbers.{same_int-true, same_int-false, number_with, number_without}
 use Rattle.halfspace.proofs.SlackLaws.{zero_bits, zero_bits_not, default_same}

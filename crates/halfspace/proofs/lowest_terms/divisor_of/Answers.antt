@@ -1,5 +1,5 @@
 -- The first number, one more, and all.
-use Rattle.std.proofs.Common.{[], ◌∷◌, ◌∙◌, ◌≡◌, ◌<◌, ◌^◌, ◌≤◌, ℕ, ℤ, List, nat_abs, pos, get_or, take, ap, sym, subst, arith, length, lit<, to_z, of_z, w64}
+use Rattle.std.proofs.Common.{[], ◌∷◌, ◌∙◌, ◌≡◌, ◌<◌, ◌^◌, ℕ, ℤ, List, nat_abs, pos, get_or, take, ap, sym, subst, arith, length, lit<, to_z, of_z, w64}
 use Rattle.std.proofs.lemmas.List.{take_more, take_all}
 use Rattle.std.specs.Int.{IsGcd}
 use Rattle.polynomials.specs.Small.{IsSmall}

@@ -1,5 +1,5 @@
 -- Zeros stay; else each number is divided by the greatest common divisor.
-use Rattle.std.proofs.Common.{◌∷◌, ◌∙◌, ◌≡◌, ◌<◌, ◌^◌, ◌*ℤ◌, ℕ, ℤ, List, nat_abs, pos, get_or, ap, sym, subst, arith, length, length-set, get_or-set_other, get_or-set_same, below_more, ◌≢◌, lit<, to_z, of_z, w64}
+use Rattle.std.proofs.Common.{◌∷◌, ◌∙◌, ◌≡◌, ◌^◌, ◌*ℤ◌, ℕ, ℤ, List, nat_abs, pos, ap, sym, subst, arith, length-set, get_or-set_other, get_or-set_same, below_more, ◌≢◌, lit<, to_z, of_z, w64}
 use Rattle.std.proofs.lemmas.Int.{to_z-of_z}
 use Rattle.std.specs.Int.{◌∣◌}
 use Rattle.std.proofs.lemmas.List.Elements.{All-head}
