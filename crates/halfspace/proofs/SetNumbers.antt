@@ -1,8 +1,10 @@
 -- Sets of numbers, and the numbers that have a bit for each member.
+use Rattle.std.specs.Prelude.{◌⊎◌, ◌||◌, nat_eq}
+use Rattle.std.proofs.Common.{inl, inr}
 use Rattle.std.specs.Prelude.{◌≡◌, ◌≢◌, ℕ, zero, suc, ◌+◌, ◌*◌, ◌%◌, ◌^◌, ◌<◌, ◌≤◌, ℤ, pos, negsuc, Bool, true, false, cond, List, [], ◌∷◌, ◌++◌, filter, bit_or, bit_and}
 use Rattle.std.specs.List.{range_with_len}
 use Rattle.std.specs.Int.Bits.{or_add_and}
-use Rattle.std.proofs.Common.{refl, sym, ap, ◌∙◌, subst, arith}
+use Rattle.std.proofs.Common.{inl, inr, refl, sym, ap, ◌∙◌, subst, arith}
 use Rattle.std.proofs.lemmas.Bool.{false≢true}
 use Rattle.std.proofs.lemmas.Bool.Decides.{nat_tests}
 use Rattle.std.proofs.lemmas.List.Elements.{filter-append}
@@ -10,7 +12,7 @@ use Rattle.std.proofs.lemmas.List.Sums.{sum_by-append}
 use Rattle.std.proofs.lemmas.Nat.Bits.{and_pow, bit_at_above}
 use Rattle.std.proofs.Math.Pow.{pow-lt}
 use Rattle.std.proofs.Math.Nat.{mod-eq_of_lt}
-use Rattle.iso_model.specs.Orders.{numbers}
+use Rattle.iso_model.specs.Orders.{numbers, has}
 use Rattle.iso_model.specs.Turns.{same_int}
 use Rattle.iso_model.specs.Hulls.{set_number}
 
@@ -108,3 +110,85 @@ number_with p i set few e t =
 pub number_without : (p : ℕ → Bool) (i set : ℕ) → set ≡ set_number (filter p (numbers i)) → p i ≡ false → set ≡ set_number (filter p (numbers (i + 1)))
 number_without p i set e t =
     e ∙ sym (set_number-more p i ∙ ap (λ (b : Bool). set_number (filter p (numbers i)) + part b i) t ∙ omega arith)
+
+-- ---- members of a set that is tested for
+
+eq_or_below : (i n : ℕ) → i ≤ n → (i ≡ n) ⊎ (i < n)
+eq_or_below i n h = by_test (nat_eq i n) refl
+  where
+    by_test : (b : Bool) → nat_eq i n ≡ b → (i ≡ n) ⊎ (i < n)
+    by_test true e = inl (grind (arith, nat_tests))
+    by_test false e = inr (grind (arith, nat_tests))
+
+has_here : (i x : ℕ) (xs : List ℕ) → has (x ∷ xs) i ≡ true → (i ≡ x) ⊎ (has xs i ≡ true)
+has_here i x xs h = by_test (nat_eq i x) refl h
+  where
+    by_test : (b : Bool) → nat_eq i x ≡ b → (b || has xs i) ≡ true → (i ≡ x) ⊎ (has xs i ≡ true)
+    by_test true e k = inl (grind (arith, nat_tests))
+    by_test false e k = inr k
+
+has_there : (i x : ℕ) (xs : List ℕ) → has xs i ≡ true → has (x ∷ xs) i ≡ true
+has_there i x xs h = elim (nat_eq i x) as (λ b. (b || has xs i) ≡ true) [ true ↦ refl | false ↦ h ]
+
+has_first : (i : ℕ) (xs : List ℕ) → has (i ∷ xs) i ≡ true
+has_first i xs = let e : nat_eq i i ≡ true = grind (arith, nat_tests) in ap (λ (b : Bool). b || has xs i) e
+
+has_append : (i : ℕ) (xs ys : List ℕ) → has (xs ++ ys) i ≡ true → (has xs i ≡ true) ⊎ (has ys i ≡ true)
+has_append i [] ys h = inr h
+has_append i (x ∷ xs) ys h =
+    elim (has_here i x (xs ++ ys) h) [
+      | inl e ↦ inl (subst (λ (k : ℕ). has (x ∷ xs) k ≡ true) (sym e) (has_first x xs))
+      | inr k ↦ elim (has_append i xs ys k) [ inl a ↦ inl (has_there i x xs a) | inr b ↦ inr b ]
+    ]
+
+has_append_left : (i : ℕ) (xs ys : List ℕ) → has xs i ≡ true → has (xs ++ ys) i ≡ true
+has_append_left i [] ys h = absurd (false≢true h)
+has_append_left i (x ∷ xs) ys h =
+    elim (has_here i x xs h) [
+      | inl e ↦ subst (λ (k : ℕ). has (x ∷ (xs ++ ys)) k ≡ true) (sym e) (has_first x (xs ++ ys))
+      | inr k ↦ has_there i x (xs ++ ys) (has_append_left i xs ys k)
+    ]
+
+has_append_right : (i : ℕ) (xs ys : List ℕ) → has ys i ≡ true → has (xs ++ ys) i ≡ true
+has_append_right i [] ys h = h
+has_append_right i (x ∷ xs) ys h = has_there i x (xs ++ ys) (has_append_right i xs ys h)
+
+-- a member is below n, and passes the test
+pub record Passes (p : ℕ → Bool) (n i : ℕ) : Type 0 where
+  pub below : i < n
+  pub passes : p i ≡ true
+
+has_passes : (p : ℕ → Bool) (n i : ℕ) → has (filter p (numbers n)) i ≡ true → Passes p n i
+has_passes p zero i h = absurd (false≢true h)
+has_passes p (suc n) i h =
+    let e : suc n ≡ n + 1 = omega arith in
+    let k = subst (λ (xs : List ℕ). has xs i ≡ true) (ap (λ (m : ℕ). filter p (numbers m)) e ∙ filter_numbers_more p n) h in
+    elim (has_append i (filter p (numbers n)) (cond (p n) (n ∷ []) []) k) [
+      | inl a ↦ (let r = has_passes p n i a in record { below = let b = r.below in omega arith; passes = r.passes })
+      | inr b ↦ last (p n) refl b
+    ]
+  where
+    last : (b : Bool) → p n ≡ b → has (cond b (n ∷ []) []) i ≡ true → Passes p (suc n) i
+    last true e h = elim (has_here i n [] h) [
+      | inl s ↦ record { below = omega arith; passes = subst (λ (k : ℕ). p k ≡ true) (sym s) e }
+      | inr k ↦ absurd (false≢true k)
+    ]
+    last false e h = absurd (false≢true h)
+
+pub has_below : (p : ℕ → Bool) (n i : ℕ) → has (filter p (numbers n)) i ≡ true → i < n
+has_below p n i h = (has_passes p n i h).below
+
+pub has_test : (p : ℕ → Bool) (n i : ℕ) → has (filter p (numbers n)) i ≡ true → p i ≡ true
+has_test p n i h = (has_passes p n i h).passes
+
+pub has_passing : (p : ℕ → Bool) (n i : ℕ) → i < n → p i ≡ true → has (filter p (numbers n)) i ≡ true
+has_passing p zero i b t = absurd (omega arith)
+has_passing p (suc n) i b t =
+    let e : suc n ≡ n + 1 = omega arith in
+    subst (λ (xs : List ℕ). has xs i ≡ true) (sym (ap (λ (m : ℕ). filter p (numbers m)) e ∙ filter_numbers_more p n))
+    (by_place (λ k. has_passing p n i k t) (eq_or_below i n (omega arith)))
+  where
+    by_place : (i < n → has (filter p (numbers n)) i ≡ true) → (i ≡ n) ⊎ (i < n) → has (filter p (numbers n) ++ cond (p n) (n ∷ []) []) i ≡ true
+    by_place behind (inl s) = has_append_right i (filter p (numbers n)) (cond (p n) (n ∷ []) [])
+        (subst (λ (c : Bool). has (cond c (n ∷ []) []) i ≡ true) (sym (subst (λ (k : ℕ). p k ≡ true) s t)) (subst (λ (k : ℕ). has (k ∷ []) i ≡ true) s (has_first i [])))
+    by_place behind (inr k) = has_append_left i (filter p (numbers n)) (cond (p n) (n ∷ []) []) (behind k)

@@ -1,12 +1,16 @@
 -- The choices of D points among which the facets are found.
-use Rattle.std.specs.Prelude.{◌≡◌, ℕ, ◌+◌, ◌<◌, ◌≤◌, ℤ, List, [], ◌∷◌, ◌++◌, map, length, sum_by, nat_eq, All, Contains, IsTrue, if◌then◌else◌}
+use Rattle.std.specs.Prelude.{◌≡◌, ℕ, ◌+◌, ◌<◌, ◌≤◌, ◌⊎◌, ◌≤ℤ◌, ℤ, pos, List, [], ◌∷◌, ◌++◌, map, length, sum_by, nat_eq, All, Contains, IsTrue, if◌then◌else◌}
 use Rattle.iso_model.specs.Orders.{has}
-use Rattle.iso_model.specs.Turns.{Spans}
+use Rattle.iso_model.specs.Turns.{HalfSpace, slack, Holds, Spans}
 use Rattle.iso_model.specs.Hulls.{IsFacet, AreFacets, set_number, members}
 
 -- the numbers of the sets of all facets, each once, in ascending order
 abbrev pub AreFacetNumbers : ℕ → List (List ℤ) → List ℕ → Type 0
 AreFacetNumbers d points numbers = (sets : List (List ℕ)) × AreFacets d points sets × (numbers ≡ map set_number sets)
+
+-- all points are held, or all lie on the other side or at the boundary
+abbrev pub IsOneSided : HalfSpace → List (List ℤ) → Type 0
+IsOneSided h points = All (Holds h) points ⊎ All (λ x. slack h x ≤ℤ pos 0) points
 
 -- the number of the set of some facet
 abbrev pub IsFacetNumber : ℕ → List (List ℤ) → ℕ → Type 0
