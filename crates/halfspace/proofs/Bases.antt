@@ -128,3 +128,23 @@ facet_choice d f points wide set facet =
       within = All-from_Each (λ i. IsTrue (has set i)) (sorted facet.basis) ordered.within;
       spans = ordered.spans;
     }
+
+-- a list of points that was filled place by place
+pub members_from : (points : List (List ℤ)) (choice : List ℕ) (chosen : List (List ℤ)) → length chosen ≡ length choice
+    → ((k : ℕ) → k < length choice → slice_index_or chosen k [] ≡ slice_index_or points (slice_index_or choice k 0) []) → chosen ≡ members points choice
+members_from points [] [] e h = refl
+members_from points [] (p ∷ ps) e h = absurd (omega arith)
+members_from points (i ∷ is) [] e h = absurd (omega arith)
+members_from points (i ∷ is) (p ∷ ps) e h =
+    let a : p ≡ slice_index_or points i [] = h 0 (omega arith) in
+    let b = members_from points is ps (omega arith) (λ k q. h (suc k) (omega arith)) in
+    cc
+
+-- a fact of all points is one of the chosen ones
+pub members_all : (P : List ℤ → Type 0) (points : List (List ℤ)) → All P points → (choice : List ℕ) → All (λ i. i < length points) choice → All P (members points choice)
+members_all P points h [] e = All-nil P
+members_all P points h (i ∷ is) e =
+    All-cons P (slice_index_or points i []) (members points is) (h i [] (All-head (λ k. k < length points) i is e)) (members_all P points h is (All-tail (λ k. k < length points) i is e))
+
+pub chosen_wide : (d : ℕ) (points : List (List ℤ)) → All (λ p. length p ≡ d) points → (choice : List ℕ) → All (λ i. i < length points) choice → AreWide d (members points choice)
+chosen_wide d points h choice e = members_wide d points h choice (each_from_All (λ i. i < length points) (λ i. i < length points) (λ i k. k) choice e)

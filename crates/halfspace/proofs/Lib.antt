@@ -2,7 +2,9 @@ pub mod Bases
 pub mod DivisorLaws
 pub mod Exchange
 pub mod FacetFound
+pub mod FoundSets
 pub mod SameSide
 pub mod SetNumbers
 pub mod SlackLaws
 pub mod Sorting
+pub mod Steps

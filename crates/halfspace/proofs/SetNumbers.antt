@@ -113,7 +113,7 @@ number_without p i set e t =
 
 -- ---- members of a set that is tested for
 
-eq_or_below : (i n : ℕ) → i ≤ n → (i ≡ n) ⊎ (i < n)
+pub eq_or_below : (i n : ℕ) → i ≤ n → (i ≡ n) ⊎ (i < n)
 eq_or_below i n h = by_test (nat_eq i n) refl
   where
     by_test : (b : Bool) → nat_eq i n ≡ b → (i ≡ n) ⊎ (i < n)
@@ -158,7 +158,7 @@ pub record Passes (p : ℕ → Bool) (n i : ℕ) : Type 0 where
   pub below : i < n
   pub passes : p i ≡ true
 
-has_passes : (p : ℕ → Bool) (n i : ℕ) → has (filter p (numbers n)) i ≡ true → Passes p n i
+pub has_passes : (p : ℕ → Bool) (n i : ℕ) → has (filter p (numbers n)) i ≡ true → Passes p n i
 has_passes p zero i h = absurd (false≢true h)
 has_passes p (suc n) i h =
     let e : suc n ≡ n + 1 = omega arith in

@@ -2,6 +2,7 @@
 #![tactic(auto)]
 
 mod boundary;
+mod choices;
 mod lowest_terms;
 
 pub use boundary::{slack, tight};
