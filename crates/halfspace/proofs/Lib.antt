@@ -1,4 +1,5 @@
 pub mod Bases
+pub mod Choosing
 pub mod DivisorLaws
 pub mod Exchange
 pub mod FacetFound

@@ -1,6 +1,6 @@
 //! The facets of a finite set of points, found by its choices of D points.
 
-ghost use Rattle.std.specs.Prelude.{◌≡◌, ◌≢◌, ◌↔◌, ◌+◌, ◌^◌, ◌<◌, ◌≤◌, ◌<ℤ◌, ◌≤ℤ◌, pos, All, Any, Contains, IsTrue, IfOk, OnOk, MatchOption, length, take};
+ghost use Rattle.std.specs.Prelude.{◌≡◌, ◌≢◌, ◌↔◌, ℕ, [], ◌∷◌, ◌++◌, ◌+◌, ◌^◌, ◌<◌, ◌≤◌, ◌<ℤ◌, ◌≤ℤ◌, pos, All, Any, Contains, IsTrue, IfOk, OnOk, MatchOption, length, take};
 ghost use Rattle.std.specs.Bool.{MatchBool};
 ghost use Rattle.std.specs.Int.{bit_at};
 ghost use Rattle.polynomials.specs.Small.{IsSmall, AreSmall};
@@ -161,10 +161,21 @@ fn consider<const D: usize>(
     }
 }
 
+// The choice with one more point.
+fn with_next<const D: usize>(chosen: &[usize; D], filled: usize, next: usize) -> [usize; D]
+    requires { filled < D }
+    ensures more { take (filled + 1) result ≡ take filled chosen.now ++ next ∷ [] }
+    ensures inside { (n : ℕ) → All (λ i. i < n) (take filled chosen.now) → next < n → All (λ i. i < n) (take (filled + 1) result) }
+{
+    let mut longer = *chosen;
+    longer[filled] = next;
+    longer
+}
+
 // Considers each choice that begins with the first `filled` chosen points and goes on in ascending order from `start`.
 fn choose<const D: usize>(
     points: &[[i32; D]],
-    chosen: [usize; D],
+    chosen: &[usize; D],
     filled: usize,
     start: usize,
     facets: &mut Vec<u64>,
@@ -175,19 +186,17 @@ fn choose<const D: usize>(
     requires small { All (λ point. AreSmall 32 point) points.now }
     requires wide { All (λ p. length p ≡ D) points.now }
     requires room { filled ≤ D }
-    requires inside { All (λ i. i < length points.now) (take filled chosen) }
+    requires inside { All (λ i. i < length points.now) (take filled chosen.now) }
     requires known { AreSomeFacets D points.now facets.old.items }
     ensures known { AreSomeFacets D points.now facets.new.items }
     ensures kept { All (Contains facets.new.items) facets.old.items }
-    ensures tried { OnOk result (AreTried D points.now facets.new.items (take filled chosen.entry) start) }
+    ensures tried { OnOk result (AreTried D points.now facets.new.items (take filled chosen.now) start) }
 {
     if filled == D {
-        return consider(points, &chosen, facets);
+        return consider(points, chosen, facets);
     }
     for i in start..points.len() {
-        let mut longer = chosen;
-        longer[filled] = i;
-        choose(points, longer, filled + 1, i + 1, facets)?;
+        choose(points, &with_next(chosen, filled, i), filled + 1, i + 1, facets)?;
     }
     Ok(())
 }
@@ -208,7 +217,7 @@ pub fn plain_facets<const D: usize>(alloc: Global, points: &[[i32; D]]) -> Resul
 {
     know_lengths(points);
     let mut facets = Vec::new(alloc);
-    choose(points, [0; D], 0, 0, &mut facets)?;
+    choose(points, &[0; D], 0, 0, &mut facets)?;
     facets.sort_unstable();
     Ok(facets)
 }
