@@ -69,7 +69,7 @@ same_set p q (suc n) e =
     let s : suc n ≡ n + 1 = omega arith in
     let f = ap (λ (m : ℕ). set_number (filter p (numbers m))) (sym s) ∙ e ∙ ap (λ (m : ℕ). set_number (filter q (numbers m))) s in
     let both = by_digits (p n) (q n) (set_number (filter p (numbers n))) (set_number (filter q (numbers n))) (2 ^ n) (set_number-below p n) (set_number-below q n)
-        (sym (set_number-more p n) ∙ f ∙ set_number-more q n) in
+    (sym (set_number-more p n) ∙ f ∙ set_number-more q n) in
     ap (λ (m : ℕ). filter p (numbers m)) s ∙ filter_numbers_more p n
     ∙ ap (λ (xs : List ℕ). xs ++ cond (p n) (n ∷ []) []) (same_set p q n both.1) ∙ ap (λ (b : Bool). filter q (numbers n) ++ cond b (n ∷ []) []) both.0
     ∙ sym (filter_numbers_more q n) ∙ ap (λ (m : ℕ). filter q (numbers m)) (sym s)
@@ -210,5 +210,5 @@ all_facets d points found ordered moved rises some every = (
     strict k h =
         let up = rises k (k + 1) 0 (omega arith) h in
         let apart : slice_index_or ordered k 0 ≢ slice_index_or ordered (k + 1) 0 =
-            λ q. let two = occurs_twice ordered k h q in let one = once (slice_index_or ordered k 0) in absurd (omega arith) in
+        λ q. let two = occurs_twice ordered k h q in let one = once (slice_index_or ordered k 0) in absurd (omega arith) in
         omega arith

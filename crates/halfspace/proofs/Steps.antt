@@ -156,9 +156,9 @@ pub facet_here : (d : ℕ) → 2 ≤ d → d ≤ 4 → (points : List (List ℤ)
 facet_here d least greatest points choice h same full inside wide normal spans sides m e =
     let number : m ≡ set_number (tight_set (hyper (members points choice)) points) = e ∙ ap (λ (k : HalfSpace). set_number (tight_set k points)) same in
     let f : IsFacet d points (tight_set (hyper (members points choice)) points) =
-        is_facet d least greatest points choice full inside wide (subst HasNormal same normal) spans (subst (λ (k : HalfSpace). IsOneSided k points) same sides) in
+    is_facet d least greatest points choice full inside wide (subst HasNormal same normal) spans (subst (λ (k : HalfSpace). IsOneSided k points) same sides) in
     let own : All (λ i. IsTrue (has (tight_set (hyper (members points choice)) points) i)) choice =
-        each_tight (hyper (members points choice)) points choice inside (own_tight d least greatest (members points choice) (length-members points choice ∙ full) wide) in
+    each_tight (hyper (members points choice)) points choice inside (own_tight d least greatest (members points choice) (length-members points choice ∙ full) wide) in
     record {
       facet = (tight_set (hyper (members points choice)) points, f, number);
       through = subst (λ (n : ℕ). All (λ i. bit_at n i ≡ 1) choice) (sym number) (each_has d points (tight_set (hyper (members points choice)) points) f choice own);

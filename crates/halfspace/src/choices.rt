@@ -8,11 +8,10 @@ ghost use Rattle.iso_model.specs.Turns.{HasNormal, Holds, slack};
 ghost use Rattle.iso_model.specs.Hulls.{members};
 ghost use Rattle.halfspace.specs.Choices.{AreFacetNumbers, AreSomeFacets, IsTried, AreTried, IsWithinSome, HasNoFacet, IsFacetThrough};
 
-use std::alloc::Global;
-
 use crate::boundary::{slack, tight};
 use iso_base::Memory;
-use small_turn::{hyper, HalfSpace};
+use small_turn::{HalfSpace, hyper};
+use std::alloc::Global;
 
 // Some point lies inside the half-space, off its boundary.
 fn some_inside<const D: usize>(half: &HalfSpace<D>, points: &[[i32; D]]) -> bool
@@ -61,8 +60,7 @@ fn has_normal<const D: usize>(normal: &[i64; D]) -> bool
 // Each point has D coordinates, as its type says.
 fn know_length<const D: usize>(point: &[i32; D])
     ensures { length point.now ≡ D }
-{
-}
+{}
 
 // The same of each of the points.
 fn know_lengths<const D: usize>(points: &[[i32; D]])
@@ -196,7 +194,13 @@ fn choose<const D: usize>(
         return consider(points, chosen, facets);
     }
     for i in start..points.len() {
-        choose(points, &with_next(chosen, filled, i), filled + 1, i + 1, facets)?;
+        choose(
+            points,
+            &with_next(chosen, filled, i),
+            filled + 1,
+            i + 1,
+            facets,
+        )?;
     }
     Ok(())
 }

@@ -6,6 +6,7 @@ mod choices;
 mod lowest_terms;
 
 pub use boundary::{slack, tight};
+pub use choices::plain_facets;
 pub use lowest_terms::reduce;
 
 #[cfg(test)]
@@ -49,5 +50,25 @@ mod tests {
             bound: -1099511627776,
         };
         assert_eq!(rt; slack(&steep, &[64; 4]), -1103806595072);
+    }
+
+    #[test]
+    fn facets_of_points(rt: HostRuntime) {
+        let triangle = plain_facets(rt.alloc(), &[[2, 0], [0, 2], [0, 0]]).expect(&rt, "memory");
+        assert_eq!(rt; triangle.as_slice(), [3, 5, 6].as_slice());
+        // two opposite corners of a cube are positive: six facets have a coefficient of size 3
+        let ends = [
+            [2, 0, 0],
+            [0, 2, 0],
+            [0, 0, 2],
+            [4, 4, 2],
+            [4, 2, 4],
+            [2, 4, 4],
+            [0, 0, 0],
+            [4, 4, 4],
+        ];
+        let steep = plain_facets(rt.alloc(), &ends).expect(&rt, "memory");
+        let want = [11, 21, 25, 38, 42, 52, 67, 69, 70, 152, 168, 176];
+        assert_eq!(rt; steep.as_slice(), want.as_slice());
     }
 }

@@ -11,8 +11,8 @@ returns-then-filled-clause-tried g t c =
     let whole = take_all c.args.filled c.args.chosen.now (omega arith) in
     OnOk-weaker c.consider.result _ _
     (λ h. AreTried-full g.row.D c.args.points.now c.consider.new.facets.items (take c.args.filled c.args.chosen.now) c.args.start
-        (length-take-le c.args.filled c.args.chosen.now (omega arith) ∙ omega arith)
-        (subst (λ (xs : List ℕ). IsTried g.row.D c.args.points.now c.consider.new.facets.items xs) (sym whole) h))
+    (length-take-le c.args.filled c.args.chosen.now (omega arith) ∙ omega arith)
+    (subst (λ (xs : List ℕ). IsTried g.row.D c.args.points.now c.consider.new.facets.items xs) (sym whole) h))
     c.consider.ensures.tried
 
 pub loop-i-init : goal.loop-i-init

@@ -12,8 +12,19 @@ use Rattle.halfspace.proofs.choices.facet_through.Goals.{else-some_inside-via-th
 pub hyper-half-requires : goal.hyper-half-requires
 hyper-half-requires g c = (
   search rules,
-  (search rules, (search rules, (search rules, (search rules,
-      subst (λ (ps : List (List ℤ)). All (λ p. AreSmall 32 p) ps) (sym c.points_at.ensures) (members_all (λ p. AreSmall 32 p) c.args.points.now c.requires.small c.args.choice.now c.requires.inside))))),
+  (
+    search rules,
+    (
+      search rules,
+      (
+        search rules,
+        (
+          search rules,
+          subst (λ (ps : List (List ℤ)). All (λ p. AreSmall 32 p) ps) (sym c.points_at.ensures) (members_all (λ p. AreSmall 32 p) c.args.points.now c.requires.small c.args.choice.now c.requires.inside),
+        ),
+      ),
+    ),
+  ),
 )
 
 pub returns-then-not-has_normal : goal.returns-then-not-has_normal
@@ -31,10 +42,10 @@ returns-then-some_outside g c =
 pub returns : goal.returns
 returns g c =
     let sides : IsOneSided (record { normal = c.hyper-half.result.normal; bound = c.hyper-half.result.bound }) c.args.points.now =
-        elim c.else-some_inside.branch [
-          | else-some_inside-via-then-some_inside+else-some_outside w ↦ inl w.if-some_outside.ensures
-          | else-some_inside-via-else-some_inside w ↦ inr w.if-some_inside.ensures
-        ] in
+    elim c.else-some_inside.branch [
+      | else-some_inside-via-then-some_inside+else-some_outside w ↦ inl w.if-some_outside.ensures
+      | else-some_inside-via-else-some_inside w ↦ inr w.if-some_inside.ensures
+    ] in
     facet_here g.row.D c.requires.least c.requires.greatest c.args.points.now c.args.choice.now (record { normal = c.hyper-half.result.normal; bound = c.hyper-half.result.bound })
     (same_half c.hyper-half.result.normal c.hyper-half.result.bound c.points_at.result (members c.args.points.now c.args.choice.now) c.hyper-half.ensures.normal c.hyper-half.ensures.bound c.points_at.ensures)
     c.told-choice c.requires.inside (chosen_wide g.row.D c.args.points.now c.requires.wide c.args.choice.now c.requires.inside)
