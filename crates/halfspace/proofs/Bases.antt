@@ -1,10 +1,10 @@
 -- A facet has an ascending choice of D of its points that span a hyperplane.
-use Rattle.std.specs.Prelude.{◌≡◌, ◌≢◌, ℕ, zero, suc, ◌+◌, ◌<◌, ◌≤◌, ℤ, pos, negsuc, neg_ℤ, Bool, true, false, List, [], ◌∷◌, ◌++◌, map, length, filter, slice_index_or, All, IsTrue}
+use Rattle.std.specs.Prelude.{◌≡◌, ℕ, suc, ◌<◌, ◌≤◌, ℤ, pos, neg_ℤ, true, List, [], ◌∷◌, ◌++◌, length, slice_index_or, All, IsTrue}
 use Rattle.std.proofs.Common.{refl, sym, ap, ◌∙◌, subst, arith, length-append}
 use Rattle.std.proofs.lemmas.Int.{ints}
 use Rattle.std.proofs.lemmas.List.Elements.{All-cons, All-nil, All-head, All-tail}
 use Rattle.iso_model.specs.Orders.{has, sorted}
-use Rattle.iso_model.specs.Turns.{turn, rows_to, Spans, tight_set}
+use Rattle.iso_model.specs.Turns.{Spans}
 use Rattle.iso_model.specs.Hulls.{IsFacet, members}
 use Rattle.small_turn.proofs.Planes.{AreWide}
 use Rattle.halfspace.specs.Choices.{IsAscending}

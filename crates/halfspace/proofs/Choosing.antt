@@ -1,9 +1,9 @@
 -- All choices that go on from some points, one next point after the other.
-use Rattle.std.specs.Prelude.{◌≡◌, ℕ, zero, suc, ◌+◌, ◌<◌, ◌≤◌, ℤ, List, [], ◌∷◌, ◌++◌, length, take, All, Contains, Result, Ok, Err, OnOk}
-use Rattle.std.proofs.Common.{inl, inr, refl, sym, ap, ◌∙◌, subst, arith, append_assoc, length-append, length-take}
+use Rattle.std.specs.Prelude.{◌≡◌, ℕ, ◌+◌, ◌<◌, ◌≤◌, ℤ, List, [], ◌∷◌, ◌++◌, length, All, Contains, Result, Ok, Err, OnOk}
+use Rattle.std.proofs.Common.{inl, inr, refl, sym, ap, subst, arith, append_assoc, length-append}
 use Rattle.std.proofs.lemmas.List.Elements.{All-contains}
 use Rattle.iso_model.specs.Hulls.{set_number}
-use Rattle.halfspace.specs.Choices.{IsTried, AreTried, IsAscending}
+use Rattle.halfspace.specs.Choices.{IsTried, AreTried}
 use Rattle.halfspace.proofs.SetNumbers.{eq_or_below}
 
 -- ---- what is tried stays tried as more facets are found

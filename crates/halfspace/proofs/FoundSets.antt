@@ -1,16 +1,14 @@
 -- Lists of the numbers of facets' sets: their bits, how often each stands there, and when they are the numbers of all facets.
-use Rattle.std.specs.Prelude.{◌≡◌, ◌≢◌, ◌⊎◌, ℕ, zero, suc, ◌+◌, ◌-◌, ◌*◌, ◌%◌, ◌^◌, ◌<◌, ◌≤◌, Bool, true, false, cond, nat_eq, nat_lt, List, [], ◌∷◌, ◌++◌, map, filter, length, slice_index_or, sum_by, ℤ, All, Contains, IsPermutation}
+use Rattle.std.specs.Prelude.{◌≡◌, ◌≢◌, ◌⊎◌, ℕ, zero, suc, ◌+◌, ◌-◌, ◌*◌, ◌^◌, ◌<◌, ◌≤◌, Bool, true, false, cond, nat_eq, nat_lt, List, [], ◌∷◌, ◌++◌, map, filter, length, slice_index_or, ℤ, All, Contains, IsPermutation}
 use Rattle.std.specs.Int.{bit_at}
-use Rattle.std.specs.List.{AllAdjacentBelow}
 use Rattle.std.proofs.Common.{refl, sym, ap, ◌∙◌, subst, arith, inl, inr}
-use Rattle.std.proofs.lemmas.Bool.{false≢true}
 use Rattle.std.proofs.lemmas.Bool.Decides.{nat_tests}
 use Rattle.std.proofs.lemmas.List.Elements.{All-nil, All-cons, All-head, All-tail, All-contains}
 use Rattle.std.proofs.lemmas.List.Sorted.{All-permutation, Contains-permutation, sum_by-IsPermutation}
 use Rattle.std.proofs.lemmas.List.Sums.{sum_by-cons, sum_by_push}
 use Rattle.std.proofs.lemmas.Nat.Bits.{bit_at_cat_low, bit_at_cat_high, bit_at_above}
 use Rattle.iso_model.specs.Orders.{numbers}
-use Rattle.iso_model.specs.Hulls.{IsFacet, AreFacets, set_number}
+use Rattle.iso_model.specs.Hulls.{IsFacet, set_number}
 use Rattle.halfspace.specs.Choices.{AreFacetNumbers, IsFacetNumber, AreSomeFacets, occurrences}
 use Rattle.halfspace.proofs.SetNumbers.{part, set_number-more, set_number-below, filter_numbers_more, eq_or_below}
 

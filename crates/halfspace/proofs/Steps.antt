@@ -1,14 +1,13 @@
 -- What one choice of D points adds to the facets that are found.
-use Rattle.std.specs.Prelude.{◌≡◌, ◌≢◌, ◌⊎◌, ◌↔◌, ℕ, zero, suc, ◌+◌, ◌<◌, ◌≤◌, ℤ, pos, negsuc, ◌-ℤ◌, ◌*ℤ◌, ◌≤ℤ◌, ◌<ℤ◌, Bool, true, false, List, [], ◌∷◌, ◌++◌, filter, map, length, slice_index_or, All, Any, Contains, IsTrue}
+use Rattle.std.specs.Prelude.{◌≡◌, ◌≢◌, ℕ, zero, suc, ◌+◌, ◌<◌, ◌≤◌, ℤ, pos, negsuc, ◌-ℤ◌, ◌*ℤ◌, ◌≤ℤ◌, ◌<ℤ◌, true, List, [], ◌∷◌, ◌++◌, map, length, slice_index_or, All, Any, Contains, IsTrue}
 use Rattle.std.specs.Int.{bit_at}
 use Rattle.std.proofs.Common.{refl, sym, ap, ◌∙◌, subst, arith, inl, inr}
 use Rattle.std.proofs.lemmas.Int.{ints}
 use Rattle.std.proofs.lemmas.List.{length-map}
-use Rattle.std.proofs.lemmas.List.Elements.{All-nil, All-cons, All-head, All-tail, All-contains, All-push, Contains-push, Contains-append_left, filter_agree, All-weaker}
+use Rattle.std.proofs.lemmas.List.Elements.{All-nil, All-cons, All-head, All-tail, All-push, Contains-push, filter_agree, All-weaker}
 use Rattle.polynomials.proofs.Ring.{ring, var, con, ◌⊖◌, ◌⊗◌}
-use Rattle.polynomials.proofs.IntLaws.{mul-eq-zero, mul-comm, mul-zero_left}
 use Rattle.iso_model.specs.Orders.{numbers, has}
-use Rattle.iso_model.specs.Turns.{HalfSpace, slack, IsTight, same_int, tight_set, Holds, HasNormal, Spans, hyper, dot, minus}
+use Rattle.iso_model.specs.Turns.{HalfSpace, slack, same_int, tight_set, HasNormal, Spans, hyper, dot, minus}
 use Rattle.iso_model.specs.Hulls.{IsFacet, members, set_number}
 use Rattle.small_turn.proofs.Cramer.{scaled}
 use Rattle.small_turn.proofs.Planes.{AreWide, AreTight, dot-scaled}

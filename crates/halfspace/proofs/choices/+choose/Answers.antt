@@ -1,5 +1,5 @@
 -- A full choice is considered; one that is not goes on with each next point in turn.
-use Rattle.std.proofs.Common.{rules, ◌≡◌, ◌∙◌, ◌+◌, ◌<◌, ◌∷◌, [], ◌++◌, ℕ, List, All, arith, subst, sym, take, length, length-take-le}
+use Rattle.std.proofs.Common.{◌∙◌, ◌+◌, ℕ, List, arith, subst, sym, take, length-take-le}
 use Rattle.std.proofs.lemmas.List.{take_all}
 use Rattle.std.proofs.lemmas.List.Elements.{All-contains_itself}
 use Rattle.halfspace.specs.Choices.{IsTried, AreTried}

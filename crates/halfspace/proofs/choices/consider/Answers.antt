@@ -1,5 +1,5 @@
 -- A choice within a known facet, through a new one, or through none.
-use Rattle.std.proofs.Common.{◌≡◌, ◌++◌, ◌∷◌, [], ℕ, List, All, Contains, subst, sym}
+use Rattle.std.proofs.Common.{◌∷◌, [], ℕ, List, All, Contains, subst, sym}
 use Rattle.std.proofs.lemmas.Bool.{false≢true}
 use Rattle.std.proofs.lemmas.List.Elements.{All-contains_itself, Contains-append_left, Contains-get_or}
 use Rattle.halfspace.specs.Choices.{AreSomeFacets, IsTried, IsWithinSome}

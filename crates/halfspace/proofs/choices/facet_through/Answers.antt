@@ -1,7 +1,7 @@
 -- What the half-space through the chosen points tells of the facets that have them.
-use Rattle.std.proofs.Common.{rules, ◌∙◌, ◌≡◌, ℤ, List, All, subst, sym, inl, inr}
+use Rattle.std.proofs.Common.{rules, ◌∙◌, ℤ, List, All, subst, sym, inl, inr}
 use Rattle.polynomials.specs.Small.{AreSmall}
-use Rattle.iso_model.specs.Turns.{HalfSpace, hyper, Spans}
+use Rattle.iso_model.specs.Turns.{Spans}
 use Rattle.iso_model.specs.Hulls.{members}
 use Rattle.halfspace.specs.Choices.{IsOneSided}
 use Rattle.halfspace.proofs.Bases.{members_all, chosen_wide}

@@ -1,5 +1,5 @@
 -- Each facet has a choice that is tried, and a sort only changes the order.
-use Rattle.std.proofs.Common.{◌∙◌, ◌+◌, ℕ, arith}
+use Rattle.std.proofs.Common.{arith}
 use Rattle.std.proofs.lemmas.List.Sorted.{IsNonDecreasingBy-from_sort}
 use Rattle.halfspace.proofs.Bases.{facet_choice}
 use Rattle.halfspace.proofs.FoundSets.{all_facets}

@@ -1,4 +1,4 @@
-use Rattle.std.proofs.Common.{◌<◌, ◌≡◌, List, All, ℕ, arith, length, subst, sym, take}
+use Rattle.std.proofs.Common.{◌<◌, List, All, ℕ, arith, subst, sym, take}
 use Rattle.std.proofs.lemmas.List.{take_more_set}
 use Rattle.std.proofs.lemmas.List.Elements.{All-push}
 use Rattle.halfspace.proofs.choices.with_next.Goals as goal
