@@ -179,9 +179,9 @@ sets-length d points (x ∷ xs) e = ap suc (sets-length d points xs e.1)
 pub all_facets : (d : ℕ) (points : List (List ℤ)) (found ordered : List ℕ) → IsPermutation found ordered
     → ((i j : ℕ) (z : ℕ) → i ≤ j → j < length ordered → slice_index_or ordered i z ≤ slice_index_or ordered j z)
     → AreSomeFacets d points found → ((set : List ℕ) → IsFacet d points set → Contains found (set_number set)) → AreFacetNumbers d points ordered
-all_facets d points found ordered moved rises some every = (
-  sets,
-  (record {
+all_facets d points found ordered moved rises some every = record {
+  sets = sets;
+  facets = record {
     each = λ set. (
       λ c. All-contains (IsFacet d points) sets set (sets_are_facets d points ordered e) c,
       λ f. let c = Contains-permutation found ordered (set_number set) moved (every set f) in set_is_there d points set f ordered e c.0 c.1 c.2,
@@ -191,9 +191,9 @@ all_facets d points found ordered moved rises some every = (
         let b = number_at d points ordered e (k + 1) z h in
         let s = strict k (omega arith) in
         omega arith;
-  }),
-  sets-numbers d points ordered e,
-)
+  };
+  numbered = sets-numbers d points ordered e;
+}
   where
     e : EachFacet d points ordered
     e = each_facet d points ordered (All-permutation (IsFacetNumber d points) found ordered moved some.facets)

@@ -6,8 +6,10 @@ use Rattle.iso_model.specs.Turns.{HalfSpace, slack, Holds, Spans}
 use Rattle.iso_model.specs.Hulls.{IsFacet, AreFacets, set_number, members}
 
 -- the numbers of the sets of all facets, each once, in ascending order
-abbrev pub AreFacetNumbers : ℕ → List (List ℤ) → List ℕ → Type 0
-AreFacetNumbers d points numbers = (sets : List (List ℕ)) × AreFacets d points sets × (numbers ≡ map set_number sets)
+pub record AreFacetNumbers (d : ℕ) (points : List (List ℤ)) (numbers : List ℕ) : Type 0 where
+  pub sets : List (List ℕ)
+  pub facets : AreFacets d points sets
+  pub numbered : numbers ≡ map set_number sets
 
 -- all points are held, or all lie on the other side or at the boundary
 abbrev pub IsOneSided : HalfSpace → List (List ℤ) → Type 0

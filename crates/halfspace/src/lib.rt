@@ -3,7 +3,7 @@
 //!
 //! A set of points of a list is written as a number whose bit i is set where point i is a member.
 //!
-//! For proofs above this crate: `specs/Choices` has `AreFacetNumbers`, which `plain_facets` ensures. Of the files in
+//! For proofs above this crate: `specs/Choices` has `AreFacetNumbers`, which `plain_facets` ensures of its answer. Of the files in
 //! `proofs`, `FacetFound` says that a facet with D points that span a hyperplane is the tight set of the half-space
 //! through them (`found`), and that this half-space is tight at each of them (`own_tight`); `Steps` that such a tight
 //! set is a facet (`facet_here`); `Bases` that each facet has an ascending choice of D points that span

@@ -125,7 +125,7 @@ fn turn_four(a: &[i64; 4], b: &[i64; 4], c: &[i64; 4], d: &[i64; 4]) -> i64
     dot(&cofactors_of_three(a, b, c), d)
 }
 
-/// The row in numbers of 64 bits. `N` is `D`; numbers are from -64 to 64.
+/// The row in numbers of 64 bits. `N` is `D`, and the numbers lie from -64 to 64.
 pub fn wide<const D: usize, const N: usize>(row: &[i32; D]) -> [i64; N]
     requires alike { D ≡ N }
     requires small { AreSmall 64 row.now }
