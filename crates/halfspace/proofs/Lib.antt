@@ -1,0 +1,11 @@
+pub mod Bases
+pub mod Choosing
+pub mod DivisorLaws
+pub mod Exchange
+pub mod FacetFound
+pub mod FoundSets
+pub mod SameSide
+pub mod SetNumbers
+pub mod SlackLaws
+pub mod Sorting
+pub mod Steps

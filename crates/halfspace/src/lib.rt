@@ -1,0 +1,136 @@
+//! Half-spaces of small whole numbers, and the facets of a finite set of points by the plain way: each D of the points
+//! are tried, and the half-space through them is kept where all points lie on one side of it.
+//!
+//! A set of points of a list is written as a number whose bit i is set where point i is a member.
+//!
+//! For proofs above this crate: `specs/Choices` has `AreFacetNumbers`, which `plain_facets` ensures of its answer. Of the files in
+//! `proofs`, `FacetFound` says that a facet with D points that span a hyperplane is the tight set of the half-space
+//! through them (`found`), and that this half-space is tight at each of them (`own_tight`); `Steps` that such a tight
+//! set is a facet (`facet_here`); `Bases` that each facet has an ascending choice of D points that span
+//! (`facet_choice`); `FoundSets` that the number of a facet's set fixes the set (`same_facet`), how its bits are those
+//! of the members, and when a list has the numbers of all facets (`all_facets`); `SetNumbers` has sets that are given
+//! by a test.
+#![tactic(auto)]
+
+mod boundary;
+mod choices;
+mod lowest_terms;
+
+pub use boundary::{slack, tight};
+pub use choices::plain_facets;
+pub use lowest_terms::reduce;
+
+#[cfg(test)]
+mod tests {
+    use super::*;
+    use small_turn::HalfSpace;
+
+    #[test]
+    fn half_spaces_in_lowest_terms(rt: HostRuntime) {
+        for (normal, bound, want, least) in [
+            ([4, -6], 8, [2, -3], 4),
+            ([0, 0], -9, [0, 0], -1),
+            ([0, 0], 0, [0, 0], 0),
+            ([1099511627776, -1099511627776], 1099511627776, [1, -1], 1),
+        ] {
+            assert_eq!(rt;
+                reduce(HalfSpace { normal, bound }),
+                HalfSpace {
+                    normal: want,
+                    bound: least
+                }
+            );
+        }
+    }
+
+    #[test]
+    fn points_at_a_boundary(rt: HostRuntime) {
+        // the half-space x + 2 y <= 4
+        let half = HalfSpace {
+            normal: [1, 2],
+            bound: 4,
+        };
+        assert_eq!(rt; slack(&half, &[1, 1]), 1);
+        assert_eq!(rt; slack(&half, &[64, -64]), 68);
+        assert_eq!(rt;
+            tight(&half, &[[0, 0], [4, 0], [0, 2], [-2, 3], [2, 2]]),
+            14
+        );
+        let steep = HalfSpace {
+            normal: [16777216; 4],
+            bound: -1099511627776,
+        };
+        assert_eq!(rt; slack(&steep, &[64; 4]), -1103806595072);
+    }
+
+    #[test]
+    fn facets_in_the_plane_and_in_space(rt: HostRuntime) {
+        let triangle = plain_facets(rt.alloc(), &[[2, 0], [0, 2], [0, 0]]).expect(&rt, "memory");
+        assert_eq!(rt; triangle.as_slice(), [3, 5, 6].as_slice());
+        // midpoints and positive corners of a cube with two opposite corners positive: coefficients have size 3
+        let opposite = [
+            [2, 0, 0],
+            [0, 2, 0],
+            [0, 0, 2],
+            [4, 4, 2],
+            [4, 2, 4],
+            [2, 4, 4],
+            [0, 0, 0],
+            [4, 4, 4],
+        ];
+        let want = [11, 21, 25, 38, 42, 52, 67, 69, 70, 152, 168, 176];
+        let facets = plain_facets(rt.alloc(), &opposite).expect(&rt, "memory");
+        assert_eq!(rt; facets.as_slice(), want.as_slice());
+        // the same with the ends of a diagonal of a side positive: facets with more than three points
+        let diagonal = [
+            [2, 0, 0],
+            [0, 2, 0],
+            [4, 2, 0],
+            [2, 4, 0],
+            [4, 0, 2],
+            [0, 4, 2],
+            [4, 0, 0],
+            [0, 4, 0],
+        ];
+        let want = [51, 60, 81, 84, 162, 168, 207];
+        let facets = plain_facets(rt.alloc(), &diagonal).expect(&rt, "memory");
+        assert_eq!(rt; facets.as_slice(), want.as_slice());
+    }
+
+    #[test]
+    fn facets_in_four_dimensions(rt: HostRuntime) {
+        // the corners of a hypercube
+        let corners = [
+            [0, 0, 0, 0],
+            [2, 0, 0, 0],
+            [0, 2, 0, 0],
+            [2, 2, 0, 0],
+            [0, 0, 2, 0],
+            [2, 0, 2, 0],
+            [0, 2, 2, 0],
+            [2, 2, 2, 0],
+            [0, 0, 0, 2],
+            [2, 0, 0, 2],
+            [0, 2, 0, 2],
+            [2, 2, 0, 2],
+            [0, 0, 2, 2],
+            [2, 0, 2, 2],
+            [0, 2, 2, 2],
+            [2, 2, 2, 2],
+        ];
+        let want = [255, 3855, 13107, 21845, 43690, 52428, 61680, 65280];
+        let facets = plain_facets(rt.alloc(), &corners).expect(&rt, "memory");
+        assert_eq!(rt; facets.as_slice(), want.as_slice());
+        // the corners of a simplex and a point inside, with the greatest coordinates
+        let simplex = [
+            [-32, -32, -32, -32],
+            [32, -32, -32, -32],
+            [-32, 32, -32, -32],
+            [-32, -32, 32, -32],
+            [-32, -32, -32, 32],
+            [-31, -31, -31, -31],
+        ];
+        let facets = plain_facets(rt.alloc(), &simplex).expect(&rt, "memory");
+        assert_eq!(rt; facets.as_slice(), [15, 23, 27, 29, 30].as_slice());
+    }
+}

@@ -1,0 +1,4 @@
+pub mod Examples
+pub mod IntLaws
+pub mod Ring
+pub mod SmallLaws
