@@ -1,0 +1,3 @@
+mod SetLaws
+mod EdgeRule
+mod FacetRule

@@ -1,0 +1,29 @@
+-- Sets of edges as numbers: bit e is set where edge e is a member.
+use Rattle.std.specs.Prelude.{◌≡◌, ℕ, ◌<◌, ◌≤◌, Bool, false, ◌&&◌, List, length, slice_index, All}
+use Rattle.std.specs.List.{list_all}
+use Rattle.iso_model.specs.declared.Kind.{Kind}
+use Rattle.iso_model.specs.Orders.{has, is_distinct}
+use Rattle.iso_model.specs.Cells.{HasDimension, is_set, edge_count, facet_count, edge_in_facet}
+use Rattle.iso_model.specs.Tables.{IsTuple}
+use Rattle.iso_model.specs.Bipolar.{is_bipolar_in}
+
+-- the set of the members of a list
+abbrev pub IsSetOf : ℕ → List ℕ → Type 0
+IsSetOf set es = (e : ℕ) → is_set set e ≡ has es e
+
+-- no edge stands twice, and all are in a set
+abbrev pub is_sound_in : ℕ → List ℕ → Bool
+is_sound_in set w = is_distinct w && list_all (is_set set) w
+
+-- tuples of a cell, and the set of the edges that are bipolar in a labelling of its corners
+pub record Suits (kind : Kind) (d label bipolar : ℕ) (ws : List (List ℕ)) : Type 0 where
+  pub fits : HasDimension kind d
+  pub tuples : All (IsTuple kind d) ws
+  pub bipolar_is : (e : ℕ) → e < edge_count kind d → is_set bipolar e ≡ is_bipolar_in kind d label e
+  pub others : (e : ℕ) → edge_count kind d ≤ e → is_set bipolar e ≡ false
+
+-- tuples of a cell, and the sets of the edges that lie in its facets
+pub record SuitsFacets (kind : Kind) (d : ℕ) (facets : List ℕ) (ws : List (List ℕ)) : Type 0 where
+  pub tuples : All (IsTuple kind d) ws
+  pub count : length facets ≡ facet_count kind d
+  pub members : (f e : ℕ) → f < facet_count kind d → e < edge_count kind d → is_set (slice_index facets f) e ≡ edge_in_facet kind d f e
