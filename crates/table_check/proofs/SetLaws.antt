@@ -1,5 +1,5 @@
 -- Bits, members, and lists without repeats.
-use Rattle.std.specs.Prelude.{◌≡◌, ◌≢◌, ℕ, zero, suc, ◌+◌, ◌<◌, max, Bool, true, false, not, ◌&&◌, ◌||◌, ◌==◌, nat_eq, List, [], ◌∷◌, ◌++◌, length, take, drop}
+use Rattle.std.specs.Prelude.{◌≡◌, ◌≢◌, ℕ, zero, suc, ◌+◌, ◌<◌, ◌≤◌, max, Bool, true, false, not, ◌&&◌, ◌||◌, ◌==◌, nat_eq, List, [], ◌∷◌, ◌++◌, length, take, drop}
 use Rattle.std.specs.List.{list_all}
 use Rattle.std.specs.Int.{bit_at}
 use Rattle.std.proofs.Common.{get_or, refl, sym, ap, ◌∙◌, subst, arith, inl, inr}
@@ -9,7 +9,9 @@ use Rattle.std.proofs.lemmas.List.{take_more, take-append-drop}
 use Rattle.std.proofs.lemmas.List.Folds.{list_any-append, list_all_more, list_all_at}
 use Rattle.iso_model.specs.Orders.{has, is_distinct}
 use Rattle.iso_model.specs.Cells.{is_set}
-use Rattle.table_check.specs.Sets.{IsSetOf, is_sound_in}
+use mathlib.Core.Bool.{beq}
+use Rattle.iso_model.specs.Bipolar.{differ}
+use Rattle.table_check.specs.Sets.{IsSetOf, is_sound_in, differs}
 
 or_false : (b : Bool) → (b || false) ≡ b
 or_false true = refl
@@ -104,3 +106,33 @@ repeats set w i x inside read old =
 pub leaves : (set : ℕ) (w : List ℕ) (i x : ℕ) → i < length w → x ≡ get_or w i x → is_set set x ≡ false → is_sound_in set w ≡ false
 leaves set w i x inside read out =
     and_right (is_distinct w) (list_all (is_set set) w) (list_all_at (is_set set) w i x inside (subst (λ e. is_set set e ≡ false) read out))
+
+-- ---- the bipolar edges
+
+not-beq : (a b : Bool) → not (beq a b) ≡ differ a b
+not-beq true true = refl
+not-beq true false = refl
+not-beq false true = refl
+not-beq false false = refl
+
+pub differs_as : (label : ℕ) (ends : ℕ × ℕ) (a b r : Bool) → a ≡ is_set label ends.0 → b ≡ is_set label ends.1 → not (beq a b) ≡ r → differs label ends ≡ r
+differs_as label ends a b r first second told =
+    ap (λ x. differ x (is_set label ends.1)) (sym first) ∙ ap (λ y. differ a y) (sym second) ∙ sym (not-beq a b) ∙ told
+
+-- the edges before a place are the members that differ
+pub record AreBipolarBelow (label set place : ℕ) (ends : List (ℕ × ℕ)) : Type 0 where
+  pub members : (e : ℕ) → e < place → is_set set e ≡ differs label (get_or ends e (0, 0))
+  pub others : (e : ℕ) → place ≤ e → is_set set e ≡ false
+
+pub bipolar_none : (label : ℕ) (ends : List (ℕ × ℕ)) → AreBipolarBelow label 0 0 ends
+bipolar_none label ends = record { members = λ e h. absurd (omega arith); others = λ e h. set_none e }
+
+pub bipolar_more : (label set more i : ℕ) (ends : List (ℕ × ℕ)) (r : Bool) → AreBipolarBelow label set i ends → differs label (get_or ends i (0, 0)) ≡ r → is_set more i ≡ r
+    → ((e : ℕ) → e ≢ i → is_set more e ≡ is_set set e) → AreBipolarBelow label more (i + 1) ends
+bipolar_more label set more i ends r s told here others = record {
+  members = λ e h. elim (cases_eq e i) [
+    | inl same ↦ subst (λ k. is_set more k ≡ differs label (get_or ends k (0, 0))) (sym same) (here ∙ sym told)
+    | inr other ↦ let before : e < i = omega arith in others e other ∙ s.members e before
+  ];
+  others = λ e h. let other : e ≢ i = omega arith in others e other ∙ s.others e (omega arith);
+}

@@ -5,7 +5,7 @@ use Rattle.iso_model.specs.declared.Kind.{Kind}
 use Rattle.iso_model.specs.Orders.{has, is_distinct}
 use Rattle.iso_model.specs.Cells.{HasDimension, is_set, edge_count, facet_count, edge_in_facet}
 use Rattle.iso_model.specs.Tables.{IsTuple}
-use Rattle.iso_model.specs.Bipolar.{is_bipolar_in}
+use Rattle.iso_model.specs.Bipolar.{differ, is_bipolar_in}
 
 -- the set of the members of a list
 abbrev pub IsSetOf : ℕ → List ℕ → Type 0
@@ -14,6 +14,10 @@ IsSetOf set es = (e : ℕ) → is_set set e ≡ has es e
 -- no edge stands twice, and all are in a set
 abbrev pub is_sound_in : ℕ → List ℕ → Bool
 is_sound_in set w = is_distinct w && list_all (is_set set) w
+
+-- one of the two corners is positive in a labelling, and the other is not
+abbrev pub differs : ℕ → ℕ × ℕ → Bool
+differs label ends = differ (is_set label ends.0) (is_set label ends.1)
 
 -- tuples of a cell, and the set of the edges that are bipolar in a labelling of its corners
 pub record Suits (kind : Kind) (d label bipolar : ℕ) (ws : List (List ℕ)) : Type 0 where

@@ -7,7 +7,7 @@ ghost use Rattle.iso_model.specs.Cells.{is_set};
 ghost use Rattle.iso_model.specs.Acceptance.{rule_inside};
 ghost use Rattle.table_check.specs.Sets.{SuitsFacets};
 
-use crate::sets::has_edge;
+use crate::sets::has_member;
 
 /// Whether no tuple has all its edges in one facet of the cell. The edges of each facet are given as a set.
 pub fn keeps_off_facets<const D: usize>(facets: &[u32], tuples: &[[u8; D]]) -> bool
@@ -41,7 +41,7 @@ fn lies_in<const D: usize>(set: u32, tuple: &[u8; D]) -> bool
     ensures { result ≡ list_all (is_set set) tuple.now }
 {
     for edge in tuple {
-        if !has_edge(set, *edge) {
+        if !has_member(set, *edge) {
             return false;
         }
     }

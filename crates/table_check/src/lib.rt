@@ -9,3 +9,4 @@ mod tests;
 
 pub use edges::keeps_edges;
 pub use facets::keeps_off_facets;
+pub use sets::bipolar_set;

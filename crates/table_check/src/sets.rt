@@ -1,15 +1,15 @@
-//! Sets of edges: bit e is set where edge e is a member.
+//! Sets of edges and of corners: bit k is set where number k is a member.
 
-ghost use Rattle.std.specs.Prelude.{◌≡◌, ◌≢◌, ℕ, ◌<◌, ◌||◌, true, false, All, IfSome, IfNone};
+ghost use Rattle.std.specs.Prelude.{◌≡◌, ◌≢◌, ℕ, ◌<◌, ◌≤◌, ◌||◌, true, false, length, slice_index_or, All, IfSome, IfNone};
 ghost use Rattle.iso_model.specs.Cells.{is_set};
-ghost use Rattle.table_check.specs.Sets.{IsSetOf, is_sound_in};
+ghost use Rattle.table_check.specs.Sets.{IsSetOf, is_sound_in, differs};
 
-/// Whether an edge is a member.
-pub(crate) fn has_edge(set: u32, edge: u8) -> bool
-    requires { edge < 32 }
-    ensures { result ≡ is_set set edge }
+/// Whether a number is a member.
+pub(crate) fn has_member(set: u32, member: u8) -> bool
+    requires { member < 32 }
+    ensures { result ≡ is_set set member }
 {
-    (set >> edge) & 1 == 1
+    (set >> member) & 1 == 1
 }
 
 /// The set with an edge.
@@ -37,13 +37,31 @@ pub(crate) fn sound_set<const D: usize>(within: u32, tuple: &[u8; D]) -> Option<
 {
     let mut set = 0;
     for edge in tuple {
-        if has_edge(set, *edge) {
+        if has_member(set, *edge) {
             return None;
         }
-        if !has_edge(within, *edge) {
+        if !has_member(within, *edge) {
             return None;
         }
         set = with_edge(set, *edge);
     }
     Some(set)
+}
+
+/// The edges of which one end is positive in a labelling and the other is not. A label has bit k set where corner k is
+/// positive; an edge is given by its two corners.
+pub fn bipolar_set(label: u32, ends: &[(u8, u8)]) -> u32
+    requires few { length ends.now ≤ 32 }
+    requires corners { All (λ (p : ℕ × ℕ). (p.0 < 32) × (p.1 < 32)) ends.now }
+    ensures members { (e : ℕ) → e < length ends.now → is_set result e ≡ differs label (slice_index_or ends.now e (0, 0)) }
+    ensures others { (e : ℕ) → length ends.now ≤ e → is_set result e ≡ false }
+{
+    let mut set = 0;
+    for edge in 0..ends.len() {
+        let (first, second) = ends[edge];
+        if has_member(label, first) != has_member(label, second) {
+            set = with_edge(set, edge as u8);
+        }
+    }
+    set
 }

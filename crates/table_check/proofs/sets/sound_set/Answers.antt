@@ -14,14 +14,14 @@ loop-edge-preserved g c =
     let inside : i < length w = omega (arith, c.told-tuple, c.loop-edge-test.true) in
     let read : x ≡ get_or w i x = get_or_default w i 0 x inside in
     record {
-      sound = sound_more c.args.within w i x inside read c.loop-edge.invariant.sound (sym (c.loop-edge.invariant.set x) ∙ sym c.if-has_edge.ensures) (sym c.if-not-has_edge.ensures);
+      sound = sound_more c.args.within w i x inside read c.loop-edge.invariant.sound (sym (c.loop-edge.invariant.set x) ∙ sym c.if-has_member.ensures) (sym c.if-not-has_member.ensures);
       set = set_more c.loop-edge.set c.with_edge-set.result w i x inside read c.loop-edge.invariant.set c.with_edge-set.ensures.same c.with_edge-set.ensures.others;
     }
 
-pub returns-then-has_edge-clause-unsound : goal.returns-then-has_edge-clause-unsound
-returns-then-has_edge-clause-unsound g c =
+pub returns-then-has_member-clause-unsound : goal.returns-then-has_member-clause-unsound
+returns-then-has_member-clause-unsound g c =
     let w = c.args.tuple.now in
     let i = c.loop-edge.edge-index in
     let x = get_or w i 0 in
     let inside : i < length w = omega (arith, c.told-tuple, c.loop-edge-test.true) in
-    repeats c.args.within w i x inside (get_or_default w i 0 x inside) (sym (c.loop-edge.invariant.set x) ∙ sym c.if-has_edge.ensures)
+    repeats c.args.within w i x inside (get_or_default w i 0 x inside) (sym (c.loop-edge.invariant.set x) ∙ sym c.if-has_member.ensures)
