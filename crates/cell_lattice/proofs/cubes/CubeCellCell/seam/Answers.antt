@@ -1,0 +1,26 @@
+use Rattle.std.proofs.Common.{◌≡◌, ℕ, ◌+◌, ◌-◌, ◌*◌, ◌/◌, ◌^◌, ◌<◌, [], map, length, slice_index_or, refl, rules, arith, ◌∙◌, false, true}
+use Rattle.std.proofs.lemmas.List.FromFn.{fill_by_all}
+use Rattle.iso_model.specs.declared.Kind.TheVariants.{Cube}
+use Rattle.iso_model.specs.Points.{axes}
+use Rattle.iso_model.specs.Orders.{numbers}
+use Rattle.cell_lattice.specs.declared.Seam.{Seam}
+use Rattle.cell_lattice.specs.SeamTables.{seam_at, met_corners, padded}
+use Rattle.cell_lattice.specs.Dimensions.{IsDimension}
+use Rattle.cell_lattice.specs.Agreement.{agree_in_each}
+use Rattle.cell_lattice.specs.declared.cubes.TheConstants.{SEAMS}
+use Rattle.cell_lattice.proofs.cubes.CubeCellCell.seam.Goals as goal
+
+-- the seams as the code has them
+abbrev written : ℕ → ℕ → Seam
+written d n = slice_index_or (slice_index_or SEAMS (d - 2) []) n (record { facet = 0; other = 0; size = 0; map = []; same = false })
+
+pub returns : goal.returns
+returns g c =
+    let is : IsDimension g.row.D = search rules in
+    record {
+      facet = agree_in_each (λ d. d) (λ d n. (written d n).facet) (λ d n. (seam_at Cube d n).facet) refl refl refl g.row.D is c.args.number c.requires;
+      other = agree_in_each (λ d. d) (λ d n. (written d n).other) (λ d n. (seam_at Cube d n).other) refl refl refl g.row.D is c.args.number c.requires;
+      size = agree_in_each (λ d. d) (λ d n. (written d n).size) (λ d n. length (met_corners Cube d (seam_at Cube d n))) refl refl refl g.row.D is c.args.number c.requires;
+      map = agree_in_each (λ d. d) (λ d n. (written d n).map) (λ d n. padded 8 (met_corners Cube d (seam_at Cube d n))) refl refl refl g.row.D is c.args.number c.requires;
+      same = agree_in_each (λ d. d) (λ d n. (written d n).same) (λ d n. (seam_at Cube d n).same_parity) refl refl refl g.row.D is c.args.number c.requires;
+    }
