@@ -1,6 +1,6 @@
 -- Two functions that give the same list of values over the numbers below n agree at each of them: so a table is compared with a definition by computing.
-use Rattle.std.specs.Prelude.{◌≡◌, ℕ, zero, suc, ◌+◌, ◌<◌, List, [], ◌∷◌, map, length, slice_index_or, All}
-use Rattle.std.proofs.Common.{ap, sym, ◌∙◌, arith, get_or, subst}
+use Rattle.std.specs.Prelude.{◌≡◌, ℕ, ◌<◌, List, [], ◌∷◌, map, All}
+use Rattle.std.proofs.Common.{ap, sym, ◌∙◌, arith, get_or}
 use Rattle.std.proofs.lemmas.List.FromFn.{get_or-map-range_with_len}
 use Rattle.std.proofs.lemmas.List.Elements.{All-nil, All-cons}
 use Rattle.iso_model.specs.Orders.{numbers}

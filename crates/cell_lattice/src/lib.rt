@@ -1,10 +1,10 @@
 //! The canonical cells, of which isosurface tables speak: their corners, edges, facets and seams.
 #![tactic(auto)]
 
-ghost use Rattle.std.specs.Prelude.{◌≡◌, ℕ, ◌<◌, length, map, pos, ◌+ℤ◌, All, refl};
+ghost use Rattle.std.specs.Prelude.{◌≡◌, ℕ, ◌^◌, ◌<◌, ◌≤◌, length, map, slice_index, pos, ◌+ℤ◌, All, refl};
 ghost use Rattle.std.proofs.Common.{inl, inr};
 ghost use Rattle.iso_model.specs.declared.Kind.{Kind};
-ghost use Rattle.iso_model.specs.Cells.{HasDimension, corner_count, edge_count, facet_count, corner_point, edge_ends, edge_midpoint, facet_corners, facet_edges, corner_basis};
+ghost use Rattle.iso_model.specs.Cells.{HasDimension, corner_count, edge_count, facet_count, corner_point, edge_ends, edge_midpoint, facet_corners, facet_edges, corner_basis, is_set, corner_in_facet, edge_in_facet};
 ghost use Rattle.iso_model.specs.Seams.{seams};
 ghost use Rattle.iso_model.specs.CellLaws.{HasOwnEdges, MeetsCorners, KeepsEdges, LiesInTwoFacets};
 ghost use Rattle.iso_model.specs.Hulls.{set_number};
@@ -64,7 +64,9 @@ pub trait Cell<const D: usize> {
     /// The two corners of the edge, the smaller first.
     fn edge_ends(edge: u8) -> (u8, u8)
         requires { edge < EDGES }
-        ensures { result ≡ edge_ends KIND D edge };
+        ensures ends { result ≡ edge_ends KIND D edge }
+        ensures ordered { result.0 < result.1 }
+        ensures corners { result.1 < CORNERS };
 
     /// The sum of the edge's two corners, in quarter-units.
     fn edge_mid(edge: u8) -> [i32; D]
@@ -84,17 +86,22 @@ pub trait Cell<const D: usize> {
     /// The set of the corners of the facet: bit k is set where corner k is one.
     fn facet_mask(facet: u8) -> u32
         requires { facet < FACETS }
-        ensures { result ≡ set_number (facet_corners KIND D facet) };
+        ensures set { result ≡ set_number (facet_corners KIND D facet) }
+        ensures members { (k : ℕ) → k < CORNERS → is_set result k ≡ corner_in_facet KIND facet k }
+        ensures few { result < 2 ^ CORNERS };
 
     /// The set of the edges with both ends in the facet.
     fn facet_edges(facet: u8) -> u32
         requires { facet < FACETS }
-        ensures { result ≡ set_number (facet_edges KIND D facet) };
+        ensures set { result ≡ set_number (facet_edges KIND D facet) }
+        ensures members { (e : ℕ) → e < EDGES → is_set result e ≡ edge_in_facet KIND D facet e }
+        ensures few { result < 2 ^ EDGES };
 
     /// The D edges of least number at the corner.
     fn corner_basis(corner: u8) -> [u8; D]
         requires { corner < CORNERS }
-        ensures { result ≡ corner_basis KIND D corner };
+        ensures basis { result ≡ corner_basis KIND D corner }
+        ensures edges { (i : ℕ) → i < D → slice_index result i < EDGES };
 
     /// The seam of this number.
     fn seam(number: u8) -> Seam
@@ -103,7 +110,10 @@ pub trait Cell<const D: usize> {
         ensures other { result.other ≡ (seam_at KIND D number).other }
         ensures size { result.size ≡ length (met_corners KIND D (seam_at KIND D number)) }
         ensures map { result.map ≡ padded 8 (met_corners KIND D (seam_at KIND D number)) }
-        ensures same { result.same ≡ (seam_at KIND D number).same_parity };
+        ensures same { result.same ≡ (seam_at KIND D number).same_parity }
+        ensures facets { (result.facet < FACETS) × (result.other < FACETS) }
+        ensures places { result.size ≤ 8 }
+        ensures corners { (i : ℕ) → i < 8 → slice_index result.map i < CORNERS };
 
     ghost is_dimension: { IsDimension D };
 

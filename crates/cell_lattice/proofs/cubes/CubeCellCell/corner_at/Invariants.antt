@@ -1,4 +1,4 @@
-use Rattle.std.proofs.Common.{◌≡◌, ℕ, ◌*◌, ◌<◌, length, pos, slice_index_or, nat_lt, if◌then◌else◌}
+use Rattle.std.proofs.Common.{◌≡◌, ℕ, ◌*◌, ◌<◌, length, pos, slice_index_or}
 use Rattle.std.specs.Int.{bit_at}
 use Rattle.cell_lattice.proofs.cubes.CubeCellCell.corner_at.Given as goal
 

@@ -1,5 +1,4 @@
-use Rattle.std.proofs.Common.{◌≡◌, ℕ, ◌*◌, ◌<◌, length, pos, slice_index_or, nat_lt, if◌then◌else◌}
-use Rattle.std.specs.Int.{bit_at}
+use Rattle.std.proofs.Common.{◌≡◌, ℕ, ◌<◌, length, pos, slice_index_or, nat_lt, if◌then◌else◌}
 use Rattle.cell_lattice.proofs.simplices.SimplexCellCell.corner_at.Given as goal
 
 abbrev pub invariant-loop-axis : goal.invariant-loop-axis
