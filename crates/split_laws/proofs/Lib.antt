@@ -1,0 +1,4 @@
+pub mod Members
+pub mod Coordinates
+pub mod Offsets
+pub mod Placement
