@@ -2,3 +2,4 @@ pub mod Members
 pub mod Coordinates
 pub mod Offsets
 pub mod Placement
+pub mod Sharing
