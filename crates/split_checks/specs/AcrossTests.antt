@@ -88,10 +88,10 @@ abbrev pub all_across : Kind → ℕ → List ℕ → Bool
 all_across kind d ranks = list_all (across_of d (all_facets kind d) (next_across kind d) (cells_per_cube kind d) (facet_count kind d)) ranks
 
 -- the facet across the facet across is the facet itself
-abbrev leads_back_at : List (List (ℕ × ℕ)) → ℕ → ℕ → ℕ × ℕ → Bool
+abbrev pub leads_back_at : List (List (ℕ × ℕ)) → ℕ → ℕ → ℕ × ℕ → Bool
 leads_back_at next r f n = ((next_at next n.0 n.1).0 == r) && ((next_at next n.0 n.1).1 == f)
 
-abbrev leads_back_with : List (List (ℕ × ℕ)) → ℕ → ℕ → Bool
+abbrev pub leads_back_with : List (List (ℕ × ℕ)) → ℕ → ℕ → Bool
 leads_back_with next ranks facets = list_all (λ r. list_all (λ f. leads_back_at next r f (next_at next r f)) (numbers facets)) (numbers ranks)
 
 abbrev pub all_lead_back : Kind → ℕ → Bool
@@ -115,7 +115,7 @@ abbrev pub are_joined : Kind → ℕ → ℕ → ℕ → ℕ × ℕ → Bool
 are_joined kind d r f n =
     list_any (λ s. joins kind d r f n (move_across d (facet_offsets kind d r f)) s || joins kind d n.0 n.1 (r, f) (move_across d (facet_offsets kind d n.0 n.1)) s) (seams kind d)
 
-abbrev joined_with : Kind → ℕ → List (List (ℕ × ℕ)) → ℕ → Bool
+abbrev pub joined_with : Kind → ℕ → List (List (ℕ × ℕ)) → ℕ → Bool
 joined_with kind d next r = list_all (λ f. are_joined kind d r f (next_at next r f)) (numbers (facet_count kind d))
 
 abbrev pub all_joined : Kind → ℕ → List ℕ → Bool

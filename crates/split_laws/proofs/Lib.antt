@@ -3,3 +3,5 @@ pub mod Coordinates
 pub mod Offsets
 pub mod Placement
 pub mod Sharing
+pub mod Across
+pub mod AcrossLaws
