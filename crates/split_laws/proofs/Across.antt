@@ -176,7 +176,7 @@ module _ (kind : Kind) (d r f : ℕ) (hr : r < cells_per_cube kind d) (hf : f < 
 
 -- ---- by ranks
 
-In_first : {X : Type 0} (xs : List X) (d : X) → 0 < length xs → In (get_or xs 0 d) xs
+pub In_first : {X : Type 0} (xs : List X) (d : X) → 0 < length xs → In (get_or xs 0 d) xs
 In_first [] d h = absurd (omega (arith, h))
 In_first (x ∷ xs) d h = inl refl
 

@@ -5,3 +5,4 @@ pub mod Placement
 pub mod Sharing
 pub mod Across
 pub mod AcrossLaws
+pub mod NeighbourLaws
