@@ -1,6 +1,6 @@
 -- A cell of a cube is the canonical cell with its axes in another order, some of them reversed. Tested for each rank:
 -- that it is, and that the order and the reversals together have the parity of the rank.
-use Rattle.std.specs.Prelude.{ℕ, ◌-◌, ◌/◌, ◌%◌, ◌==◌, nat_lt, nat_eq, Bool, true, false, not, ◌&&◌, List, [], ◌∷◌, map, Option, Some, None, slice_index, slice_index_or, if◌then◌else◌}
+use Rattle.std.specs.Prelude.{ℕ, ◌-◌, ◌/◌, ◌%◌, ◌==◌, nat_lt, nat_le, nat_eq, Bool, true, false, not, ◌&&◌, List, [], ◌∷◌, map, length, Option, Some, None, slice_index, slice_index_or, if◌then◌else◌}
 use Rattle.std.specs.List.{list_all, position_or_len}
 use Rattle.iso_model.specs.declared.Kind.{Kind}
 use Rattle.iso_model.specs.declared.Kind.TheVariants.{Cube, Simplex, Pyramid}
@@ -29,7 +29,9 @@ abbrev pub placed : List ℕ → List Bool → List ℕ → ℕ → ℕ
 placed cols revs p i = if slice_index_or revs i false then 2 - slice_index p (slice_index cols i) else slice_index p (slice_index cols i)
 
 abbrev pub keeps_corner : Kind → ℕ → ℕ → List ℕ → List Bool → ℕ → Bool
-keeps_corner kind d rank cols revs k = same_list (corner_offset kind d rank k) (point d (placed cols revs (corner_point kind d k)))
+keeps_corner kind d rank cols revs k =
+    same_list (corner_offset kind d rank k) (point d (placed cols revs (corner_point kind d k)))
+    && (length (corner_point kind d k) == d) && list_all (λ x. nat_le x 2) (corner_point kind d k)
 
 -- whether an odd number of the axes of an order is reversed
 abbrev pub odd_reversals : List Bool → List ℕ → Bool
@@ -43,7 +45,7 @@ differs false b = b
 -- an order of the columns, and the order of the canonical columns that they are
 abbrev pub keeps_parity : ℕ → List ℕ → List Bool → Bool → List ℕ → Bool
 keeps_parity d cols revs odd order =
-    list_all (λ i. nat_lt i d) order
+    list_all (λ i. nat_lt i d) order && (length order == d)
     && not (differs (differs (is_odd_order order) (odd_reversals revs order)) (differs odd (is_odd_order (map (slice_index cols) order))))
 
 -- the list without one copy of x, if it is there
@@ -68,8 +70,11 @@ rearranged (x ∷ xs) ys = goes_on (rearranged xs) (pull x ys)
 abbrev pub turns_well : ℕ → List ℕ → List Bool → Bool → Bool
 turns_well d cols revs odd = list_all (keeps_parity d cols revs odd) (orders d) && rearranged (map (map (slice_index cols)) (orders d)) (orders d)
 
+abbrev pub are_axes : ℕ → List ℕ → Bool
+are_axes d cols = (length cols == d) && list_all (λ j. nat_lt j d) cols
+
 abbrev pub is_placed : Kind → ℕ → ℕ → List ℕ → List Bool → Bool → Bool
-is_placed kind d rank cols revs odd = list_all (keeps_corner kind d rank cols revs) (numbers (corner_count kind d)) && turns_well d cols revs odd
+is_placed kind d rank cols revs odd = are_axes d cols && list_all (keeps_corner kind d rank cols revs) (numbers (corner_count kind d)) && turns_well d cols revs odd
 
 abbrev pub is_placed_rank : Kind → ℕ → ℕ → Bool
 is_placed_rank kind d rank = is_placed kind d rank (columns kind d rank) (reversed kind d rank) (is_odd_rank kind d rank)

@@ -6,3 +6,4 @@ pub mod Sharing
 pub mod Across
 pub mod AcrossLaws
 pub mod NeighbourLaws
+pub mod Midpoints
