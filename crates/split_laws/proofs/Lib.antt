@@ -7,3 +7,5 @@ pub mod Across
 pub mod AcrossLaws
 pub mod NeighbourLaws
 pub mod Midpoints
+pub mod Turning
+pub mod Turns
