@@ -9,3 +9,5 @@ pub mod NeighbourLaws
 pub mod Midpoints
 pub mod Turning
 pub mod Turns
+pub mod Passed
+pub mod SplitTheorems
