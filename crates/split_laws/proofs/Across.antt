@@ -239,13 +239,13 @@ module _ (kind : Kind) (d : ℕ) (fit : OffsetsFit kind d) (corners : HaveCorner
     places_from o g across =
         both (list_all (λ s. list_any (λ q. meets s move q) (facet_offsets kind d o g)) here) (list_all (λ q. list_any (λ s. meets s move q) here) (facet_offsets kind d o g))
         (all_from (λ s. list_any (λ q. meets s move q) (facet_offsets kind d o g)) here (λ x i.
-          let has = (across.same (map pos x)).0 (Contains_from (map (map pos) here) (map pos x) (In-map (map pos) here x i)) in
-          let y = from_In-map (shifted (shift_across kind d r f)) (facet_offsets kind d o g) (map pos x) (In_from (map (shifted (shift_across kind d r f)) (facet_offsets kind d o g)) (map pos x) has) in
-          any_from (λ q. meets x move q) (facet_offsets kind d o g) y.0 y.1 (met x i y.0 y.1 y.2)))
+        let has = (across.same (map pos x)).0 (Contains_from (map (map pos) here) (map pos x) (In-map (map pos) here x i)) in
+        let y = from_In-map (shifted (shift_across kind d r f)) (facet_offsets kind d o g) (map pos x) (In_from (map (shifted (shift_across kind d r f)) (facet_offsets kind d o g)) (map pos x) has) in
+        any_from (λ q. meets x move q) (facet_offsets kind d o g) y.0 y.1 (met x i y.0 y.1 y.2)))
         (all_from (λ q. list_any (λ s. meets s move q) here) (facet_offsets kind d o g) (λ y i.
-          let has = (across.same (shifted (shift_across kind d r f) y)).1 (Contains_from (map (shifted (shift_across kind d r f)) (facet_offsets kind d o g)) (shifted (shift_across kind d r f) y) (In-map (shifted (shift_across kind d r f)) (facet_offsets kind d o g) y i)) in
-          let x = from_In-map (map pos) here (shifted (shift_across kind d r f) y) (In_from (map (map pos) here) (shifted (shift_across kind d r f) y) has) in
-          any_from (λ s. meets s move y) here x.0 x.1 (met x.0 x.1 y i (sym x.2))))
+        let has = (across.same (shifted (shift_across kind d r f) y)).1 (Contains_from (map (shifted (shift_across kind d r f)) (facet_offsets kind d o g)) (shifted (shift_across kind d r f) y) (In-map (shifted (shift_across kind d r f)) (facet_offsets kind d o g) y i)) in
+        let x = from_In-map (map pos) here (shifted (shift_across kind d r f) y) (In_from (map (map pos) here) (shifted (shift_across kind d r f) y) has) in
+        any_from (λ s. meets s move y) here x.0 x.1 (met x.0 x.1 y i (sym x.2))))
       where
         length_here : (x : List ℕ) → In x (facet_offsets kind d r f) → length x ≡ d
         length_here x i = let k = from_In-map (corner_offset kind d r) (facet_corners kind d f) x i in ap length k.2 ∙ fit.long r k.0 hr (in_facet kind d f k.0 k.1).0

@@ -96,35 +96,35 @@ module _ (kind : Kind) (sizes : List ℕ) (fit : OffsetsFit kind (length sizes))
         pub same_points : same_places ms here there ≡ true → SamePoints (facet_points kind sizes c f) (facet_points kind sizes e g)
         same_points h p = (
           λ has.
-          let k = from_In-map (corner kind sizes c) (facet_corners kind (length sizes) f) p (In_from (facet_points kind sizes c f) p has) in
-          let k_in = in_facet kind (length sizes) f k.0 k.1 in
-          let q = from_any (λ y. meets (offset c k.0) ms y) there (all_In (λ x. list_any (λ y. meets x ms y) there) here (and_left (list_all (λ x. list_any (λ y. meets x ms y) there) here) (list_all (λ y. list_any (λ x. meets x ms y) here) there) h) (offset c k.0) (In-map (corner_offset kind (length sizes) (rank_of kind sizes c)) (facet_corners kind (length sizes) f) k.0 k.1)) in
-          let l = from_In-map (corner_offset kind (length sizes) (rank_of kind sizes e)) (facet_corners kind (length sizes) g) q.0 q.1 in
-          let met : meets (offset c k.0) ms (offset e l.0) ≡ true = subst (λ (y : List ℕ). meets (offset c k.0) ms y ≡ true) l.2 q.2 in
-          let same : corner kind sizes e l.0 ≡ p = sym (same_where_meet k.0 l.0 k_in.0 (in_facet kind (length sizes) g l.0 l.1).0 met) ∙ sym k.2 in
-          Contains_from (facet_points kind sizes e g) p (subst (λ (x : List ℕ). In x (facet_points kind sizes e g)) same (In-map (corner kind sizes e) (facet_corners kind (length sizes) g) l.0 l.1)),
+              let k = from_In-map (corner kind sizes c) (facet_corners kind (length sizes) f) p (In_from (facet_points kind sizes c f) p has) in
+              let k_in = in_facet kind (length sizes) f k.0 k.1 in
+              let q = from_any (λ y. meets (offset c k.0) ms y) there (all_In (λ x. list_any (λ y. meets x ms y) there) here (and_left (list_all (λ x. list_any (λ y. meets x ms y) there) here) (list_all (λ y. list_any (λ x. meets x ms y) here) there) h) (offset c k.0) (In-map (corner_offset kind (length sizes) (rank_of kind sizes c)) (facet_corners kind (length sizes) f) k.0 k.1)) in
+              let l = from_In-map (corner_offset kind (length sizes) (rank_of kind sizes e)) (facet_corners kind (length sizes) g) q.0 q.1 in
+              let met : meets (offset c k.0) ms (offset e l.0) ≡ true = subst (λ (y : List ℕ). meets (offset c k.0) ms y ≡ true) l.2 q.2 in
+              let same : corner kind sizes e l.0 ≡ p = sym (same_where_meet k.0 l.0 k_in.0 (in_facet kind (length sizes) g l.0 l.1).0 met) ∙ sym k.2 in
+              Contains_from (facet_points kind sizes e g) p (subst (λ (x : List ℕ). In x (facet_points kind sizes e g)) same (In-map (corner kind sizes e) (facet_corners kind (length sizes) g) l.0 l.1)),
           λ has.
-          let l = from_In-map (corner kind sizes e) (facet_corners kind (length sizes) g) p (In_from (facet_points kind sizes e g) p has) in
-          let l_in = in_facet kind (length sizes) g l.0 l.1 in
-          let q = from_any (λ x. meets x ms (offset e l.0)) here (all_In (λ y. list_any (λ x. meets x ms y) here) there (and_right (list_all (λ x. list_any (λ y. meets x ms y) there) here) (list_all (λ y. list_any (λ x. meets x ms y) here) there) h) (offset e l.0) (In-map (corner_offset kind (length sizes) (rank_of kind sizes e)) (facet_corners kind (length sizes) g) l.0 l.1)) in
-          let k = from_In-map (corner_offset kind (length sizes) (rank_of kind sizes c)) (facet_corners kind (length sizes) f) q.0 q.1 in
-          let met : meets (offset c k.0) ms (offset e l.0) ≡ true = subst (λ (x : List ℕ). meets x ms (offset e l.0) ≡ true) k.2 q.2 in
-          let same : corner kind sizes c k.0 ≡ p = same_where_meet k.0 l.0 (in_facet kind (length sizes) f k.0 k.1).0 l_in.0 met ∙ sym l.2 in
-          Contains_from (facet_points kind sizes c f) p (subst (λ (x : List ℕ). In x (facet_points kind sizes c f)) same (In-map (corner kind sizes c) (facet_corners kind (length sizes) f) k.0 k.1)),
+              let l = from_In-map (corner kind sizes e) (facet_corners kind (length sizes) g) p (In_from (facet_points kind sizes e g) p has) in
+              let l_in = in_facet kind (length sizes) g l.0 l.1 in
+              let q = from_any (λ x. meets x ms (offset e l.0)) here (all_In (λ y. list_any (λ x. meets x ms y) here) there (and_right (list_all (λ x. list_any (λ y. meets x ms y) there) here) (list_all (λ y. list_any (λ x. meets x ms y) here) there) h) (offset e l.0) (In-map (corner_offset kind (length sizes) (rank_of kind sizes e)) (facet_corners kind (length sizes) g) l.0 l.1)) in
+              let k = from_In-map (corner_offset kind (length sizes) (rank_of kind sizes c)) (facet_corners kind (length sizes) f) q.0 q.1 in
+              let met : meets (offset c k.0) ms (offset e l.0) ≡ true = subst (λ (x : List ℕ). meets x ms (offset e l.0) ≡ true) k.2 q.2 in
+              let same : corner kind sizes c k.0 ≡ p = same_where_meet k.0 l.0 (in_facet kind (length sizes) f k.0 k.1).0 l_in.0 met ∙ sym l.2 in
+              Contains_from (facet_points kind sizes c f) p (subst (λ (x : List ℕ). In x (facet_points kind sizes c f)) same (In-map (corner kind sizes c) (facet_corners kind (length sizes) f) k.0 k.1)),
         )
 
         pub places_same : SamePoints (facet_points kind sizes c f) (facet_points kind sizes e g) → same_places ms here there ≡ true
         places_same same =
             both (list_all (λ x. list_any (λ y. meets x ms y) there) here) (list_all (λ y. list_any (λ x. meets x ms y) here) there)
             (all_from (λ x. list_any (λ y. meets x ms y) there) here (λ x i.
-              let k = from_In-map (corner_offset kind (length sizes) (rank_of kind sizes c)) (facet_corners kind (length sizes) f) x i in
-              let has = (same (corner kind sizes c k.0)).0 (Contains_from (facet_points kind sizes c f) (corner kind sizes c k.0) (In-map (corner kind sizes c) (facet_corners kind (length sizes) f) k.0 k.1)) in
-              let l = from_In-map (corner kind sizes e) (facet_corners kind (length sizes) g) (corner kind sizes c k.0) (In_from (facet_points kind sizes e g) (corner kind sizes c k.0) has) in
-              any_from (λ y. meets x ms y) there (offset e l.0) (In-map (corner_offset kind (length sizes) (rank_of kind sizes e)) (facet_corners kind (length sizes) g) l.0 l.1)
-              (subst (λ (z : List ℕ). meets z ms (offset e l.0) ≡ true) (sym k.2) (meet_where_same k.0 l.0 (in_facet kind (length sizes) f k.0 k.1).0 (in_facet kind (length sizes) g l.0 l.1).0 l.2))))
+            let k = from_In-map (corner_offset kind (length sizes) (rank_of kind sizes c)) (facet_corners kind (length sizes) f) x i in
+            let has = (same (corner kind sizes c k.0)).0 (Contains_from (facet_points kind sizes c f) (corner kind sizes c k.0) (In-map (corner kind sizes c) (facet_corners kind (length sizes) f) k.0 k.1)) in
+            let l = from_In-map (corner kind sizes e) (facet_corners kind (length sizes) g) (corner kind sizes c k.0) (In_from (facet_points kind sizes e g) (corner kind sizes c k.0) has) in
+            any_from (λ y. meets x ms y) there (offset e l.0) (In-map (corner_offset kind (length sizes) (rank_of kind sizes e)) (facet_corners kind (length sizes) g) l.0 l.1)
+            (subst (λ (z : List ℕ). meets z ms (offset e l.0) ≡ true) (sym k.2) (meet_where_same k.0 l.0 (in_facet kind (length sizes) f k.0 k.1).0 (in_facet kind (length sizes) g l.0 l.1).0 l.2))))
             (all_from (λ y. list_any (λ x. meets x ms y) here) there (λ y i.
-              let l = from_In-map (corner_offset kind (length sizes) (rank_of kind sizes e)) (facet_corners kind (length sizes) g) y i in
-              let has = (same (corner kind sizes e l.0)).1 (Contains_from (facet_points kind sizes e g) (corner kind sizes e l.0) (In-map (corner kind sizes e) (facet_corners kind (length sizes) g) l.0 l.1)) in
-              let k = from_In-map (corner kind sizes c) (facet_corners kind (length sizes) f) (corner kind sizes e l.0) (In_from (facet_points kind sizes c f) (corner kind sizes e l.0) has) in
-              any_from (λ x. meets x ms y) here (offset c k.0) (In-map (corner_offset kind (length sizes) (rank_of kind sizes c)) (facet_corners kind (length sizes) f) k.0 k.1)
-              (subst (λ (z : List ℕ). meets (offset c k.0) ms z ≡ true) (sym l.2) (meet_where_same k.0 l.0 (in_facet kind (length sizes) f k.0 k.1).0 (in_facet kind (length sizes) g l.0 l.1).0 (sym k.2)))))
+            let l = from_In-map (corner_offset kind (length sizes) (rank_of kind sizes e)) (facet_corners kind (length sizes) g) y i in
+            let has = (same (corner kind sizes e l.0)).1 (Contains_from (facet_points kind sizes e g) (corner kind sizes e l.0) (In-map (corner kind sizes e) (facet_corners kind (length sizes) g) l.0 l.1)) in
+            let k = from_In-map (corner kind sizes c) (facet_corners kind (length sizes) f) (corner kind sizes e l.0) (In_from (facet_points kind sizes c f) (corner kind sizes e l.0) has) in
+            any_from (λ x. meets x ms y) here (offset c k.0) (In-map (corner_offset kind (length sizes) (rank_of kind sizes c)) (facet_corners kind (length sizes) f) k.0 k.1)
+            (subst (λ (z : List ℕ). meets (offset c k.0) ms z ≡ true) (sym l.2) (meet_where_same k.0 l.0 (in_facet kind (length sizes) f k.0 k.1).0 (in_facet kind (length sizes) g l.0 l.1).0 (sym k.2)))))

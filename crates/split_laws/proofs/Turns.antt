@@ -134,18 +134,18 @@ module _ (kind : Kind) (d rank : ℕ) (passed : is_placed_rank kind d rank ≡ t
       ints_same (difference (corner_sum kind d rank r.0) (corner_sum kind d rank r.1)) (turned_row d cols revs (difference (midpoint_between kind d r.0) (midpoint_between kind d r.1)))
       (length-map-range_with_len (λ i. signed (slice_index_or revs i false) (slice_index_or (difference (midpoint_between kind d r.0) (midpoint_between kind d r.1)) (slice_index cols i) (pos 0))) 0 d ∙ sym many)
       (λ i q.
-        let h : i < d = omega (arith, q, many) in
-        let j : ℕ = slice_index cols i in
-        let hj : slice_index cols i < d = column_in i h in
-        difference_at (corner_sum kind d rank r.0) (corner_sum kind d rank r.1) as_long i (omega (arith, h, long_sum r.0 from))
-        ∙ ap (λ (x : ℕ). pos x -ℤ pos (slice_index (corner_sum kind d rank r.1) i)) (sum_at r.0 from i h)
-        ∙ ap (λ (y : ℕ). pos (placed cols revs (corner_point kind d r.0.0) i + placed cols revs (corner_point kind d r.0.1) i) -ℤ pos y) (sum_at r.1 to i h)
-        ∙ reversed_case (slice_index_or revs i false) (slice_index (corner_point kind d r.0.0) j) (slice_index (corner_point kind d r.0.1) j) (slice_index (corner_point kind d r.1.0) j) (slice_index (corner_point kind d r.1.1) j)
-        (small_corner r.0.0 from.0 j) (small_corner r.0.1 from.1 j) (small_corner r.1.0 to.0 j) (small_corner r.1.1 to.1 j)
-        ∙ ap (λ (x : ℕ). signed (slice_index_or revs i false) (pos x -ℤ pos (slice_index (corner_point kind d r.1.0) j + slice_index (corner_point kind d r.1.1) j))) (sym (middle_at r.0 from j hj))
-        ∙ ap (λ (y : ℕ). signed (slice_index_or revs i false) (pos (slice_index (midpoint_between kind d r.0) j) -ℤ pos y)) (sym (middle_at r.1 to j hj))
-        ∙ ap (signed (slice_index_or revs i false)) (sym (difference_at (midpoint_between kind d r.0) (midpoint_between kind d r.1) as_long' j (omega (arith, hj, long_middle r.0 from))))
-        ∙ sym (at_numbers (λ i'. signed (slice_index_or revs i' false) (slice_index_or (difference (midpoint_between kind d r.0) (midpoint_between kind d r.1)) (slice_index cols i') (pos 0))) d i (pos 0) h))
+      let h : i < d = omega (arith, q, many) in
+      let j : ℕ = slice_index cols i in
+      let hj : slice_index cols i < d = column_in i h in
+      difference_at (corner_sum kind d rank r.0) (corner_sum kind d rank r.1) as_long i (omega (arith, h, long_sum r.0 from))
+      ∙ ap (λ (x : ℕ). pos x -ℤ pos (slice_index (corner_sum kind d rank r.1) i)) (sum_at r.0 from i h)
+      ∙ ap (λ (y : ℕ). pos (placed cols revs (corner_point kind d r.0.0) i + placed cols revs (corner_point kind d r.0.1) i) -ℤ pos y) (sum_at r.1 to i h)
+      ∙ reversed_case (slice_index_or revs i false) (slice_index (corner_point kind d r.0.0) j) (slice_index (corner_point kind d r.0.1) j) (slice_index (corner_point kind d r.1.0) j) (slice_index (corner_point kind d r.1.1) j)
+      (small_corner r.0.0 from.0 j) (small_corner r.0.1 from.1 j) (small_corner r.1.0 to.0 j) (small_corner r.1.1 to.1 j)
+      ∙ ap (λ (x : ℕ). signed (slice_index_or revs i false) (pos x -ℤ pos (slice_index (corner_point kind d r.1.0) j + slice_index (corner_point kind d r.1.1) j))) (sym (middle_at r.0 from j hj))
+      ∙ ap (λ (y : ℕ). signed (slice_index_or revs i false) (pos (slice_index (midpoint_between kind d r.0) j) -ℤ pos y)) (sym (middle_at r.1 to j hj))
+      ∙ ap (signed (slice_index_or revs i false)) (sym (difference_at (midpoint_between kind d r.0) (midpoint_between kind d r.1) as_long' j (omega (arith, hj, long_middle r.0 from))))
+      ∙ sym (at_numbers (λ i'. signed (slice_index_or revs i' false) (slice_index_or (difference (midpoint_between kind d r.0) (midpoint_between kind d r.1)) (slice_index cols i') (pos 0))) d i (pos 0) h))
 
   abbrev Row : Type 0
   Row = (ℕ × ℕ) × (ℕ × ℕ)
