@@ -100,7 +100,7 @@ pub record FoundAcross (kind : Kind) (d r f : ℕ) : Type 0 where
 abbrev pub AcrossPass : Kind → ℕ → Type 0
 AcrossPass kind d = (r : ℕ) → r < cells_per_cube kind d → across_of d (all_facets kind d) (next_across kind d) (cells_per_cube kind d) (facet_count kind d) r ≡ true
 
-listed : (kind : Kind) (d r f : ℕ) → r < cells_per_cube kind d → f < facet_count kind d → facet_at (all_facets kind d) r f ≡ facet_offsets kind d r f
+pub listed : (kind : Kind) (d r f : ℕ) → r < cells_per_cube kind d → f < facet_count kind d → facet_at (all_facets kind d) r f ≡ facet_offsets kind d r f
 listed kind d r f hr hf =
     ap (λ (row : List (List (List ℕ))). slice_index_or row f []) (at_numbers (λ s. map (facet_offsets kind d s) (numbers (facet_count kind d))) (cells_per_cube kind d) r [] hr)
     ∙ at_numbers (facet_offsets kind d r) (facet_count kind d) f [] hf

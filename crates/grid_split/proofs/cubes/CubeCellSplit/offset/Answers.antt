@@ -1,0 +1,20 @@
+use Rattle.std.proofs.Common.{◌≡◌, ℕ, ◌+◌, ◌-◌, ◌*◌, ◌%◌, ◌<◌, [], length, pos, ℤ, List, slice_index_or, nat_lt, if◌then◌else◌, refl, rules, arith, ap, sym, ◌∙◌, subst, inl, inr}
+use Rattle.std.proofs.lemmas.List.FromFn.{fill_by_all}
+use Rattle.std.specs.Int.{bit_at}
+use Rattle.iso_model.specs.declared.Kind.TheVariants.{Cube, Simplex, Pyramid}
+use Rattle.iso_model.specs.Cells.{HasDimension}
+use Rattle.iso_model.specs.Neighbours.{IsAcross}
+use Rattle.cell_lattice.specs.Dimensions.{IsDimension}
+use Rattle.split_laws.proofs.Across.{next_of}
+use Rattle.split_laws.proofs.SplitTheorems.{small_offsets, found_across}
+use Rattle.grid_split.proofs.cubes.CubeCellSplit.offset.Goals as goal
+
+pub returns : goal.returns
+returns g c =
+    let is : IsDimension g.row.D = search rules in
+    let has : HasDimension Cube g.row.D = search rules in
+    let offset = fill_by_all (λ i. 2 * bit_at c.args.corner i) c.loop-axis.offset g.row.D 0 c.loop-axis.invariant.0 (λ i h. c.loop-axis.invariant.1 i (omega arith)) in
+    record {
+      offset = offset;
+      small = λ i. rw offset (small_offsets Cube g.row.D is has c.args._rank c.args.corner i c.requires.rank c.requires.corner);
+    }
