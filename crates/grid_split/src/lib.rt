@@ -5,9 +5,11 @@
 //! Points are in half-units: the sample at x is the point 2x.
 #![tactic(auto)]
 
+mod complex;
 mod cubes;
 mod pyramids;
 mod simplices;
 mod split;
 
+pub use complex::Complex;
 pub use split::{Edge, Split};
