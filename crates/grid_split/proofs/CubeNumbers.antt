@@ -6,7 +6,8 @@ use Rattle.std.specs.Prelude.{◌/◌, ◌%◌, slice_index, take, drop, fold, A
 use Rattle.std.proofs.lemmas.List.Elements.{All-head, All-tail}
 use Rattle.std.proofs.Math.Nat.{mul_comm}
 use Rattle.iso_model.specs.declared.Kind.{Kind}
-use Rattle.iso_model.specs.Splits.{cells_per_cube, cell_count, cube_count, cube_at, cube_of, rank_of}
+use Rattle.iso_model.specs.Splits.{cells_per_cube, cell_count, cube_count, cube_at, cube_of, rank_of, corner, corner_offset}
+use Rattle.iso_model.specs.Points.{point}
 use Rattle.iso_model.specs.Values.{product}
 use Rattle.split_laws.proofs.Coordinates.{quotient_below, positive_factor, length-cube_at, cube_in}
 
@@ -134,3 +135,12 @@ pub few_cells : (kind : Kind) (sizes : List ℕ) (d : ℕ) → length sizes ≡ 
 few_cells kind sizes d long ranks some few =
     let per : cells_per_cube kind (length sizes) ≤ 24 = subst (λ (n : ℕ). cells_per_cube kind n ≤ 24) (sym long) ranks in
     le_trans (le_trans (mul-le-mul_left (cube_count sizes) per) (mul-le-mul_right 24 (few_in_all sizes some few))) (omega arith)
+
+-- ---- corners
+
+pub corner_is : (kind : Kind) (sizes : List ℕ) (d cell k rank : ℕ) (cube offset : List ℕ) → length sizes ≡ d → cube ≡ cube_of kind sizes cell → rank ≡ rank_of kind sizes cell → offset ≡ corner_offset kind d rank k →
+    point d (λ i. 2 * slice_index cube i + slice_index offset i) ≡ corner kind sizes cell k
+corner_is kind sizes d cell k rank cube offset long cube_is rank_is offset_is =
+    ap (λ (x : List ℕ). point d (λ i. 2 * slice_index x i + slice_index offset i)) cube_is
+    ∙ ap (λ (o : List ℕ). point d (λ i. 2 * slice_index (cube_of kind sizes cell) i + slice_index o i)) (offset_is ∙ ap (λ (r : ℕ). corner_offset kind d r k) rank_is)
+    ∙ ap (λ (n : ℕ). point n (λ i. 2 * slice_index (cube_of kind sizes cell) i + slice_index (corner_offset kind n (rank_of kind sizes cell) k) i)) (sym long)

@@ -1,2 +1,3 @@
 mod Tables
 pub mod CubeNumbers
+pub mod Before

@@ -36,8 +36,8 @@ set_next f xs a n v long inside before here =
     let at : a < length xs = omega (arith, long, inside) in (
       simp length-set long,
       below_more (λ i. slice_index_or (slice_set xs a v) i (pos 0) ≡ f i) a
-      (λ i h. let apart : i ≢ a = omega (arith, h) in rw get_or-set_other (before i h))
-      (rw get_or-set_same here),
+          (λ i h. let apart : i ≢ a = omega (arith, h) in rw get_or-set_other (before i h))
+          (rw get_or-set_same here),
     )
 
 -- ---- cubes

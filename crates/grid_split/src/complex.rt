@@ -1,7 +1,7 @@
-ghost use Rattle.std.specs.Prelude.{◌≡◌, ℕ, ◌+◌, ◌^◌, ◌<◌, ◌≤◌, ◌↔◌, List, length, slice_index, All, Some, IsNone};
+ghost use Rattle.std.specs.Prelude.{◌≡◌, ℕ, ◌+◌, ◌*◌, ◌^◌, ◌==◌, nat_lt, if◌then◌else◌, ◌<◌, ◌≤◌, ◌↔◌, List, length, slice_index, All, Some, IsNone};
 ghost use Rattle.iso_model.specs.Values.{product};
-ghost use Rattle.iso_model.specs.Points.{comes_first as is_first};
-ghost use Rattle.iso_model.specs.Splits.{cells_per_cube, cell_count, cube_of, rank_of, corner as corner_of, edge as edge_of, is_odd_cell};
+ghost use Rattle.iso_model.specs.Points.{point, comes_first};
+ghost use Rattle.iso_model.specs.Splits.{cells_per_cube, cell_count, cube_of, rank_of, corner as corner_of, edge as edge_of, edge_of_ends, is_odd_cell};
 ghost use Rattle.iso_model.specs.Neighbours.{facet_points, IsNeighbour, OnOuterBoundary};
 
 use crate::{Edge, Split};
@@ -74,6 +74,32 @@ impl<C: Split<D>, const D: usize> Complex<C, D> {
         C::odd(self.rank_of(cell))
     }
 
+    /// Corner `corner` of the cell, in half-units. The cell is below `cells()`, the corner below `CORNERS`.
+    pub fn corner(&self, cell: u64, corner: u8) -> [u32; D]
+        requires cell { cell < cell_count C.KIND self.now }
+        requires corner { corner < C.CORNERS }
+        ensures { result ≡ corner_of C.KIND self.now cell corner }
+    {
+        let cube = self.cube_of(cell);
+        let offset = C::offset(self.rank_of(cell), corner);
+        placed(&cube, &offset)
+    }
+
+    /// Edge `edge` of the cell. The cell is below `cells()`, the edge below `EDGES`.
+    pub fn edge(&self, cell: u64, edge: u8) -> Edge<D>
+        requires cell { cell < cell_count C.KIND self.now }
+        requires edge { edge < C.EDGES }
+        ensures low { result.low ≡ (edge_of C.KIND self.now cell edge).low }
+        ensures high { result.high ≡ (edge_of C.KIND self.now cell edge).high }
+    {
+        let (first, second) = C::edge_ends(edge);
+        let cube = self.cube_of(cell);
+        let rank = self.rank_of(cell);
+        let from = C::offset(rank, first);
+        let to = C::offset(rank, second);
+        edge_between(placed(&cube, &from), placed(&cube, &to))
+    }
+
     // The rank of a cell in its cube.
     fn rank_of(&self, cell: u64) -> u32
         ensures rank { result ≡ rank_of C.KIND self.now cell }
@@ -111,4 +137,47 @@ fn per_cube<C: Split<D>, const D: usize>() -> u64
     ensures few { result ≤ 24 }
 {
     u64::from(C::PER_CUBE)
+}
+
+// The point at an offset in a cube.
+fn placed<const D: usize>(cube: &[u32; D], offset: &[u8; D]) -> [u32; D]
+    requires few { (i : ℕ) → i < D → slice_index cube.now i < 2 ^ 27 }
+    requires small { (i : ℕ) → slice_index offset.now i ≤ 2 }
+    ensures { result ≡ point D (λ i. 2 * slice_index cube.now i + slice_index offset.now i) }
+{
+    let mut point = [0; D];
+    for axis in 0..D {
+        point[axis] = 2 * cube[axis] + offset[axis] as u32;
+    }
+    point
+}
+
+// The edge with these ends, the one that comes first as its low end.
+fn edge_between<const D: usize>(p: [u32; D], q: [u32; D]) -> Edge<D>
+    ensures low { result.low ≡ (edge_of_ends p.entry q.entry).low }
+    ensures high { result.high ≡ (edge_of_ends p.entry q.entry).high }
+{
+    if is_before(&p, &q) {
+        Edge { low: p, high: q }
+    } else {
+        Edge { low: q, high: p }
+    }
+}
+
+// Whether p comes before q, last coordinate first.
+fn is_before<const D: usize>(p: &[u32; D], q: &[u32; D]) -> bool
+    ensures { result ≡ comes_first p.now q.now }
+{
+    let mut before = false;
+    for axis in 0..D {
+        before = is_before_by(before, p[axis], q[axis]);
+    }
+    before
+}
+
+// One coordinate more: it decides, unless it is the same.
+fn is_before_by(before: bool, x: u32, y: u32) -> bool
+    ensures { result ≡ (if x == y then before else nat_lt x y) }
+{
+    if x == y { before } else { x < y }
 }
