@@ -1,3 +1,4 @@
 mod Tables
 pub mod CubeNumbers
 pub mod Before
+pub mod PlaceSums

@@ -1,5 +1,6 @@
-ghost use Rattle.std.specs.Prelude.{◌≡◌, ℕ, ◌+◌, ◌*◌, ◌^◌, ◌==◌, nat_lt, if◌then◌else◌, ◌<◌, ◌≤◌, ◌↔◌, List, length, slice_index, All, Some, IsNone};
+ghost use Rattle.std.specs.Prelude.{◌≡◌, ℕ, ◌+◌, ◌*◌, ◌^◌, ◌==◌, nat_lt, if◌then◌else◌, ◌<◌, ◌≤◌, ◌↔◌, List, length, slice_index, slice_index_or, All, Some, IfSome, IfNone, IsNone, pos, ◌+ℤ◌};
 ghost use Rattle.iso_model.specs.Values.{product};
+ghost use Rattle.grid_split.specs.Steps.{IsStep, stepped, LeavesAxis, LeavesCubes, IsShiftedCube};
 ghost use Rattle.iso_model.specs.Points.{point, comes_first};
 ghost use Rattle.iso_model.specs.Splits.{cells_per_cube, cell_count, cube_of, rank_of, corner as corner_of, edge as edge_of, edge_of_ends, is_odd_cell};
 ghost use Rattle.iso_model.specs.Neighbours.{facet_points, IsNeighbour, OnOuterBoundary};
@@ -100,6 +101,41 @@ impl<C: Split<D>, const D: usize> Complex<C, D> {
         edge_between(placed(&cube, &from), placed(&cube, &to))
     }
 
+    /// The one other cell with a facet of the same points, or `None` where the facet lies on the outer boundary of
+    /// the grid. The cell is below `cells()`, the facet below `FACETS`.
+    pub fn neighbour(&self, cell: u64, facet: u8) -> Option<u64>
+        requires cell { cell < cell_count C.KIND self.now }
+        requires facet { facet < C.FACETS }
+        ensures neighbour { (other : ℕ) → IsNeighbour C.KIND self.now cell facet other ↔ (result ≡ Some other) }
+        ensures boundary { IsNone result ↔ OnOuterBoundary self.now (facet_points C.KIND self.now cell facet) }
+    {
+        let cube = self.cube_of(cell);
+        let (shift, rank, _) = C::across(self.rank_of(cell), facet);
+        match self.shifted_number(&cube, &shift) {
+            Some(number) => Some(u64::from(number) * per_cube::<C, D>() + u64::from(rank)),
+            None => None,
+        }
+    }
+
+    // The number of the cube that is shifted from this one, or `None` where the shift leads out of the grid.
+    fn shifted_number(&self, cube: &[u32; D], shift: &[i8; D]) -> Option<u32>
+        requires inside { (i : ℕ) → i < D → slice_index cube.now i + 1 < slice_index self.now i }
+        requires steps { (i : ℕ) → i < D → IsStep (slice_index_or shift.now i (pos 0)) }
+        ensures number { IfSome result (λ number. IsShiftedCube D self.now cube.now shift.now number) }
+        ensures none { IfNone result (LeavesCubes D self.now cube.now shift.now) }
+    {
+        let spans = &self.spans;
+        let strides = &self.strides;
+        let mut number = 0;
+        for axis in 0..D {
+            match step(cube[axis], shift[axis], spans[axis]) {
+                Some(place) => number = add_places(number, place, strides[axis]),
+                None => return None,
+            }
+        }
+        Some(number)
+    }
+
     // The rank of a cell in its cube.
     fn rank_of(&self, cell: u64) -> u32
         ensures rank { result ≡ rank_of C.KIND self.now cell }
@@ -180,4 +216,28 @@ fn is_before_by(before: bool, x: u32, y: u32) -> bool
     ensures { result ≡ (if x == y then before else nat_lt x y) }
 {
     if x == y { before } else { x < y }
+}
+
+// One step along an axis with this many cubes, or `None` where it leads out of the grid.
+fn step(x: u32, by: i8, span: u32) -> Option<u32>
+    requires step { IsStep by }
+    requires inside { x < span }
+    ensures some { IfSome result (λ place. (place < span) × (place ≡ stepped x by) × (pos place ≡ pos x +ℤ by)) }
+    ensures none { IfNone result (LeavesAxis (span + 1) x by) }
+{
+    if by < 0 {
+        if x == 0 { None } else { Some(x - 1) }
+    } else if by > 0 {
+        if x + 1 == span { None } else { Some(x + 1) }
+    } else {
+        Some(x)
+    }
+}
+
+// The number of a cube with one coordinate more.
+fn add_places(number: u32, place: u32, stride: u32) -> u32
+    requires { number + place * stride < 2 ^ 32 }
+    ensures { result ≡ number + place * stride }
+{
+    number + place * stride
 }
