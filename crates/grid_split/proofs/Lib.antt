@@ -2,3 +2,4 @@ mod Tables
 pub mod CubeNumbers
 pub mod Before
 pub mod PlaceSums
+pub mod NeighbourFound
