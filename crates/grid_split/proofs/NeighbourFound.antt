@@ -80,7 +80,7 @@ module _ (kind : Kind) (sizes : List ℕ) (d cell f rank o g : ℕ) (cube : List
       facet = (
         g,
         subst (λ (q : ℕ). IsAcross kind (length sizes) (rank_of kind sizes cell) f q g) (sym remainder)
-        (subst (λ (r : ℕ). IsAcross kind (length sizes) r f o g) rank_is (subst (λ (n : ℕ). IsAcross kind n rank f o g) (sym long) across)),
+            (subst (λ (r : ℕ). IsAcross kind (length sizes) r f o g) rank_is (subst (λ (n : ℕ). IsAcross kind n rank f o g) (sym long) across)),
       );
     }
 
@@ -88,8 +88,8 @@ module _ (kind : Kind) (sizes : List ℕ) (d cell f rank o g : ℕ) (cube : List
     same_as_found other s =
         cell_fixed kind sizes found other is_cell s.is_cell
         (lists_same (cube_of kind sizes found) (cube_of kind sizes other) (length-cube_at sizes (found / cells_per_cube kind (length sizes)) ∙ sym (length-cube_at sizes (other / cells_per_cube kind (length sizes)))) (λ i h.
-          let in_axes : i < length sizes = omega (arith, h, length-cube_at sizes (found / cells_per_cube kind (length sizes))) in
-          omega (arith, ints, found_stands.cube i in_axes, s.cube i in_axes)))
+        let in_axes : i < length sizes = omega (arith, h, length-cube_at sizes (found / cells_per_cube kind (length sizes))) in
+        omega (arith, ints, found_stands.cube i in_axes, s.cube i in_axes)))
         (remainder ∙ known_rank other s)
 
     pub some_neighbour : (other : ℕ) → IsNeighbour kind sizes cell f other ↔ (Some found ≡ Some other)

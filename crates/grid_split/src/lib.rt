@@ -13,3 +13,40 @@ mod split;
 
 pub use complex::Complex;
 pub use split::{Edge, Split};
+
+#[cfg(test)]
+mod tests {
+    use super::*;
+    use cell_lattice::{CubeCell, PyramidCell, SimplexCell};
+    use std::test::Fail;
+
+    #[test]
+    fn cubes_and_their_neighbours(rt: HostRuntime) -> Result<(), Fail> {
+        let cubes = Complex::<CubeCell<3>, 3>::new([3, 3, 3]);
+        assert_eq!(rt; cubes.cells(), 8);
+        assert_eq!(rt; cubes.neighbour(0, 1), Some(1));
+        assert_eq!(rt; cubes.neighbour(0, 0), None);
+        assert_eq!(rt; cubes.corner(7, 0).as_slice(), [2, 2, 2].as_slice());
+        Ok(())
+    }
+
+    #[test]
+    fn simplices_and_their_neighbours(rt: HostRuntime) -> Result<(), Fail> {
+        let simplices = Complex::<SimplexCell<3>, 3>::new([2, 2, 2]);
+        assert_eq!(rt; simplices.cells(), 6);
+        assert_eq!(rt; simplices.neighbour(0, 1), Some(2));
+        assert_eq!(rt; simplices.neighbour(0, 2), Some(1));
+        assert_eq!(rt; simplices.neighbour(0, 0), None);
+        assert_eq!(rt; simplices.neighbour(0, 3), None);
+        assert_eq!(rt; simplices.odd(1), true);
+        Ok(())
+    }
+
+    #[test]
+    fn a_grid_with_a_size_of_one_has_no_cells(rt: HostRuntime) -> Result<(), Fail> {
+        assert_eq!(rt; Complex::<CubeCell<2>, 2>::new([1, 7]).cells(), 0);
+        assert_eq!(rt; Complex::<SimplexCell<4>, 4>::new([2, 2, 1, 2]).cells(), 0);
+        assert_eq!(rt; Complex::<PyramidCell, 3>::new([2, 2, 1]).cells(), 0);
+        Ok(())
+    }
+}
