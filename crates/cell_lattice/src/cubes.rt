@@ -1,39 +1,40 @@
-ghost use Rattle.std.specs.Prelude.{ℕ, ◌+◌, ◌-◌, ◌*◌, ◌/◌, ◌^◌, ◌<◌, refl};
-ghost use Rattle.std.proofs.Common.{rules};
+ghost use Rattle.std.specs.Prelude.{◌≡◌, ℕ, ◌+◌, ◌-◌, ◌*◌, ◌/◌, ◌^◌, ◌<◌, ◌≤◌, length, map, slice_index, pos, refl};
+ghost use Rattle.std.proofs.Common.{inl, inr, rules};
 ghost use Rattle.iso_model.specs.declared.Kind.{Kind};
+ghost use Rattle.iso_model.specs.Cells.{corner_count, edge_count, facet_count, corner_point, edge_ends, facet_corners, facet_edges, corner_basis, is_set, corner_in_facet, edge_in_facet};
+ghost use Rattle.iso_model.specs.Hulls.{set_number};
+ghost use Rattle.cell_lattice.specs.Dimensions.{IsDimension};
+ghost use Rattle.cell_lattice.specs.SeamTables.{seam_at, met_corners, padded};
 ghost use Rattle.cell_lattice.specs.CellLemmas.{counted_seams, own_edges, ordered_ends, meets_corners, keeps_edges, two_facets, basis_spans};
 
-use crate::{Axes, Cell, Dimension, Kind, Seam};
+use crate::{Cell, Kind, Seam};
 
 /// A cube of D axes: corner k has the coordinate 2 in axis i where bit i of k is set, else 0.
 #[derive(Clone, Copy)]
 pub struct CubeCell<const D: usize>;
 
-impl<const D: usize> Cell<D> for CubeCell<D>
-where
-    Axes<D>: Dimension<D>,
-{
+impl Cell<2> for CubeCell<2> {
     ghost KIND = { Kind.Cube };
 
-    ghost CORNERS = { 2 ^ D };
+    ghost CORNERS = { 4 };
 
-    ghost EDGES = { D * 2 ^ (D - 1) };
+    ghost EDGES = { 4 };
 
-    ghost FACETS = { 2 * D };
+    ghost FACETS = { 4 };
 
-    ghost SEAMS = { D };
+    ghost SEAMS = { 2 };
 
     const KIND: Kind = Kind::Cube;
 
-    const CORNERS: usize = 1 << D;
+    const CORNERS: usize = 4;
 
-    const EDGES: usize = D << (D - 1);
+    const EDGES: usize = 4;
 
-    const FACETS: usize = 2 * D;
+    const FACETS: usize = 4;
 
-    const SEAMS: usize = D;
+    const SEAMS: usize = 2;
 
-    ghost is_dimension = { Prim.search rules };
+    ghost is_dimension = { inl refl };
 
     ghost has_dimension = { Prim.search rules };
 
@@ -43,51 +44,255 @@ where
 
     ghost facets = { refl };
 
-    ghost seam_count = { counted_seams Kind.Cube D (Prim.search rules) (Prim.search rules) };
+    ghost seam_count = { refl };
 
-    ghost ordered_ends = { ordered_ends Kind.Cube D (Prim.search rules) (Prim.search rules) };
+    ghost ordered_ends = { ordered_ends Kind.Cube 2 (inl refl) (Prim.search rules) };
 
-    ghost own_edges = { own_edges Kind.Cube D (Prim.search rules) (Prim.search rules) };
+    ghost own_edges = { own_edges Kind.Cube 2 (inl refl) (Prim.search rules) };
 
-    ghost meets_corners = { meets_corners Kind.Cube D (Prim.search rules) (Prim.search rules) };
+    ghost meets_corners = { meets_corners Kind.Cube 2 (inl refl) (Prim.search rules) };
 
-    ghost keeps_edges = { keeps_edges Kind.Cube D (Prim.search rules) (Prim.search rules) };
+    ghost keeps_edges = { keeps_edges Kind.Cube 2 (inl refl) (Prim.search rules) };
 
-    ghost two_facets = { two_facets Kind.Cube D };
+    ghost two_facets = { two_facets Kind.Cube 2 };
 
-    ghost basis_spans = { basis_spans Kind.Cube D (Prim.search rules) (Prim.search rules) };
+    ghost basis_spans = { basis_spans Kind.Cube 2 (inl refl) (Prim.search rules) };
 
-    fn corner_at(corner: u8) -> [i32; D] {
-        let mut point = [0; D];
-        for axis in 0..D {
-            point[axis] = 2 * i32::from((corner >> axis) & 1);
-        }
-        point
+    fn corner_at(corner: u8) -> [i32; 2] {
+        cube_corner(corner)
     }
 
     fn edge_ends(edge: u8) -> (u8, u8) {
-        ENDS[edge as usize]
+        cube_edge::<2>(edge)
     }
 
     fn facet_mask(facet: u8) -> u32 {
-        CORNERS_OF_FACETS[D - 2][facet as usize]
+        cube_facet::<2>(facet)
     }
 
     fn facet_edges(facet: u8) -> u32 {
-        EDGES_OF_FACETS[D - 2][facet as usize]
+        edges_of_cube_facet::<2>(facet)
     }
 
-    fn corner_basis(corner: u8) -> [u8; D] {
-        let mut basis = [0; D];
-        for axis in 0..D {
-            basis[axis] = BASES[D - 2][corner as usize][axis];
-        }
-        basis
+    fn corner_basis(corner: u8) -> [u8; 2] {
+        cube_basis(corner)
     }
 
     fn seam(number: u8) -> Seam {
-        SEAMS[D - 2][number as usize]
+        cube_seam::<2>(number)
     }
+}
+
+impl Cell<3> for CubeCell<3> {
+    ghost KIND = { Kind.Cube };
+
+    ghost CORNERS = { 8 };
+
+    ghost EDGES = { 12 };
+
+    ghost FACETS = { 6 };
+
+    ghost SEAMS = { 3 };
+
+    const KIND: Kind = Kind::Cube;
+
+    const CORNERS: usize = 8;
+
+    const EDGES: usize = 12;
+
+    const FACETS: usize = 6;
+
+    const SEAMS: usize = 3;
+
+    ghost is_dimension = { inr (inl refl) };
+
+    ghost has_dimension = { Prim.search rules };
+
+    ghost corners = { refl };
+
+    ghost edges = { refl };
+
+    ghost facets = { refl };
+
+    ghost seam_count = { refl };
+
+    ghost ordered_ends = { ordered_ends Kind.Cube 3 (inr (inl refl)) (Prim.search rules) };
+
+    ghost own_edges = { own_edges Kind.Cube 3 (inr (inl refl)) (Prim.search rules) };
+
+    ghost meets_corners = { meets_corners Kind.Cube 3 (inr (inl refl)) (Prim.search rules) };
+
+    ghost keeps_edges = { keeps_edges Kind.Cube 3 (inr (inl refl)) (Prim.search rules) };
+
+    ghost two_facets = { two_facets Kind.Cube 3 };
+
+    ghost basis_spans = { basis_spans Kind.Cube 3 (inr (inl refl)) (Prim.search rules) };
+
+    fn corner_at(corner: u8) -> [i32; 3] {
+        cube_corner(corner)
+    }
+
+    fn edge_ends(edge: u8) -> (u8, u8) {
+        cube_edge::<3>(edge)
+    }
+
+    fn facet_mask(facet: u8) -> u32 {
+        cube_facet::<3>(facet)
+    }
+
+    fn facet_edges(facet: u8) -> u32 {
+        edges_of_cube_facet::<3>(facet)
+    }
+
+    fn corner_basis(corner: u8) -> [u8; 3] {
+        cube_basis(corner)
+    }
+
+    fn seam(number: u8) -> Seam {
+        cube_seam::<3>(number)
+    }
+}
+
+impl Cell<4> for CubeCell<4> {
+    ghost KIND = { Kind.Cube };
+
+    ghost CORNERS = { 16 };
+
+    ghost EDGES = { 32 };
+
+    ghost FACETS = { 8 };
+
+    ghost SEAMS = { 4 };
+
+    const KIND: Kind = Kind::Cube;
+
+    const CORNERS: usize = 16;
+
+    const EDGES: usize = 32;
+
+    const FACETS: usize = 8;
+
+    const SEAMS: usize = 4;
+
+    ghost is_dimension = { inr (inr refl) };
+
+    ghost has_dimension = { Prim.search rules };
+
+    ghost corners = { refl };
+
+    ghost edges = { refl };
+
+    ghost facets = { refl };
+
+    ghost seam_count = { refl };
+
+    ghost ordered_ends = { ordered_ends Kind.Cube 4 (inr (inr refl)) (Prim.search rules) };
+
+    ghost own_edges = { own_edges Kind.Cube 4 (inr (inr refl)) (Prim.search rules) };
+
+    ghost meets_corners = { meets_corners Kind.Cube 4 (inr (inr refl)) (Prim.search rules) };
+
+    ghost keeps_edges = { keeps_edges Kind.Cube 4 (inr (inr refl)) (Prim.search rules) };
+
+    ghost two_facets = { two_facets Kind.Cube 4 };
+
+    ghost basis_spans = { basis_spans Kind.Cube 4 (inr (inr refl)) (Prim.search rules) };
+
+    fn corner_at(corner: u8) -> [i32; 4] {
+        cube_corner(corner)
+    }
+
+    fn edge_ends(edge: u8) -> (u8, u8) {
+        cube_edge::<4>(edge)
+    }
+
+    fn facet_mask(facet: u8) -> u32 {
+        cube_facet::<4>(facet)
+    }
+
+    fn facet_edges(facet: u8) -> u32 {
+        edges_of_cube_facet::<4>(facet)
+    }
+
+    fn corner_basis(corner: u8) -> [u8; 4] {
+        cube_basis(corner)
+    }
+
+    fn seam(number: u8) -> Seam {
+        cube_seam::<4>(number)
+    }
+}
+
+// ---- the answers in any of the three dimensions
+
+fn cube_corner<const D: usize>(corner: u8) -> [i32; D]
+    requires dimension { IsDimension D }
+    requires corner { corner < corner_count Kind.Cube D }
+    ensures { result ≡ map pos (corner_point Kind.Cube D corner) }
+{
+    let mut point = [0; D];
+    for axis in 0..D {
+        point[axis] = 2 * i32::from((corner >> axis) & 1);
+    }
+    point
+}
+
+fn cube_edge<const D: usize>(edge: u8) -> (u8, u8)
+    requires dimension { IsDimension D }
+    requires edge { edge < edge_count Kind.Cube D }
+    ensures ends { result ≡ edge_ends Kind.Cube D edge }
+    ensures ordered { result.0 < result.1 }
+    ensures corners { result.1 < corner_count Kind.Cube D }
+{
+    ENDS[edge as usize]
+}
+
+fn cube_facet<const D: usize>(facet: u8) -> u32
+    requires dimension { IsDimension D }
+    requires facet { facet < facet_count Kind.Cube D }
+    ensures set { result ≡ set_number (facet_corners Kind.Cube D facet) }
+    ensures members { (k : ℕ) → k < corner_count Kind.Cube D → is_set result k ≡ corner_in_facet Kind.Cube facet k }
+    ensures few { result < 2 ^ corner_count Kind.Cube D }
+{
+    CORNERS_OF_FACETS[D - 2][facet as usize]
+}
+
+fn edges_of_cube_facet<const D: usize>(facet: u8) -> u32
+    requires dimension { IsDimension D }
+    requires facet { facet < facet_count Kind.Cube D }
+    ensures set { result ≡ set_number (facet_edges Kind.Cube D facet) }
+    ensures members { (e : ℕ) → e < edge_count Kind.Cube D → is_set result e ≡ edge_in_facet Kind.Cube D facet e }
+    ensures few { result < 2 ^ edge_count Kind.Cube D }
+{
+    EDGES_OF_FACETS[D - 2][facet as usize]
+}
+
+fn cube_basis<const D: usize>(corner: u8) -> [u8; D]
+    requires dimension { IsDimension D }
+    requires corner { corner < corner_count Kind.Cube D }
+    ensures basis { result ≡ corner_basis Kind.Cube D corner }
+    ensures edges { (i : ℕ) → i < D → slice_index result i < edge_count Kind.Cube D }
+{
+    let mut basis = [0; D];
+    for axis in 0..D {
+        basis[axis] = BASES[D - 2][corner as usize][axis];
+    }
+    basis
+}
+
+fn cube_seam<const D: usize>(number: u8) -> Seam
+    requires dimension { IsDimension D }
+    requires number { number < D }
+    ensures facet { result.facet ≡ (seam_at Kind.Cube D number).facet }
+    ensures other { result.other ≡ (seam_at Kind.Cube D number).other }
+    ensures size { result.size ≡ length (met_corners Kind.Cube D (seam_at Kind.Cube D number)) }
+    ensures map { result.map ≡ padded 8 (met_corners Kind.Cube D (seam_at Kind.Cube D number)) }
+    ensures same { result.same ≡ (seam_at Kind.Cube D number).same_parity }
+    ensures facets { (result.facet < facet_count Kind.Cube D) × (result.other < facet_count Kind.Cube D) }
+    ensures places { result.size ≤ 8 }
+    ensures corners { (i : ℕ) → i < 8 → slice_index result.map i < corner_count Kind.Cube D }
+{
+    SEAMS[D - 2][number as usize]
 }
 
 // The tables of two, three and four dimensions.

@@ -149,41 +149,6 @@ fn small_sum(a: i32, b: i32) -> i32
     a + b
 }
 
-/// The axes of a grid of dimension D.
-pub struct Axes<const D: usize>;
-
-/// Two, three or four: the dimensions in which there are cells.
-pub trait Dimension<const D: usize> {
-    fn axes() -> usize
-        ensures { result ≡ D };
-
-    ghost is_dimension: { IsDimension D };
-}
-
-impl Dimension<2> for Axes<2> {
-    ghost is_dimension = { inl refl };
-
-    fn axes() -> usize {
-        2
-    }
-}
-
-impl Dimension<3> for Axes<3> {
-    ghost is_dimension = { inr (inl refl) };
-
-    fn axes() -> usize {
-        3
-    }
-}
-
-impl Dimension<4> for Axes<4> {
-    ghost is_dimension = { inr (inr refl) };
-
-    fn axes() -> usize {
-        4
-    }
-}
-
 #[cfg(test)]
 mod tests {
     use super::*;

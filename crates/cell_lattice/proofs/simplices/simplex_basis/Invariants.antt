@@ -1,6 +1,6 @@
 use Rattle.std.proofs.Common.{◌≡◌, ℕ, ◌-◌, ◌<◌, length, [], slice_index_or}
 use Rattle.cell_lattice.specs.declared.simplices.TheConstants.{BASES}
-use Rattle.cell_lattice.proofs.simplices.SimplexCellCell.corner_basis.Given as goal
+use Rattle.cell_lattice.proofs.simplices.simplex_basis.Given as goal
 
 abbrev pub invariant-loop-axis : goal.invariant-loop-axis
 invariant-loop-axis g l =

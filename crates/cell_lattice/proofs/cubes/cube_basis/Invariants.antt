@@ -1,6 +1,6 @@
 use Rattle.std.proofs.Common.{◌≡◌, ℕ, ◌-◌, ◌<◌, length, [], slice_index_or}
 use Rattle.cell_lattice.specs.declared.cubes.TheConstants.{BASES}
-use Rattle.cell_lattice.proofs.cubes.CubeCellCell.corner_basis.Given as goal
+use Rattle.cell_lattice.proofs.cubes.cube_basis.Given as goal
 
 abbrev pub invariant-loop-axis : goal.invariant-loop-axis
 invariant-loop-axis g l =
