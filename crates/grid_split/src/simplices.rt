@@ -3,73 +3,186 @@ ghost use Rattle.std.proofs.Common.{rules, inl, inr, arith};
 ghost use Rattle.iso_model.specs.declared.Kind.{Kind};
 ghost use Rattle.split_laws.proofs.SplitTheorems.{across_leads_back, one_across, own_corners, flat_sides, grid_midpoints, joined, turns_kept, grid_shares, grid_neighbour, grid_boundary};
 ghost use Rattle.std.specs.Prelude.{◌≡◌, slice_index, nat_lt, if◌then◌else◌};
-ghost use Rattle.iso_model.specs.Splits.{cells_per_cube};
-ghost use Rattle.iso_model.specs.declared.Kind.TheVariants.{Simplex};
+ghost use Rattle.iso_model.specs.Cells.{corner_count, facet_count};
+ghost use Rattle.iso_model.specs.Splits.{cells_per_cube, corner_offset, is_odd_rank};
+ghost use Rattle.iso_model.specs.Neighbours.{shift_across, IsAcross};
 ghost use Rattle.cell_lattice.specs.Dimensions.{IsDimension};
+ghost use Rattle.iso_model.specs.declared.Kind.TheVariants.{Simplex};
 ghost use Rattle.grid_split.specs.Shifts.{first_order, other_facet, shift_at_place};
 
 use crate::Split;
-use cell_lattice::{Axes, Dimension, SimplexCell};
+use cell_lattice::SimplexCell;
 
-impl<const D: usize> Split<D> for SimplexCell<D>
-where
-    Axes<D>: Dimension<D>,
-{
-    ghost PER_CUBE = { cells_per_cube Simplex D };
+impl Split<2> for SimplexCell<2> {
+    ghost PER_CUBE = { 2 };
 
-    const PER_CUBE: u32 = ORDERS[D - 2];
+    const PER_CUBE: u32 = 2;
 
     ghost counted = { refl };
 
     ghost few_ranks = { Prim.search rules };
 
-    ghost leads_back = { across_leads_back Kind.Simplex D (Prim.search rules) (Prim.search rules) };
+    ghost leads_back = { across_leads_back Kind.Simplex 2 (inl refl) (Prim.search rules) };
 
-    ghost one_across = { one_across Kind.Simplex D (Prim.search rules) (Prim.search rules) };
+    ghost one_across = { one_across Kind.Simplex 2 (inl refl) (Prim.search rules) };
 
-    ghost own_corners = { own_corners Kind.Simplex D (Prim.search rules) (Prim.search rules) };
+    ghost own_corners = { own_corners Kind.Simplex 2 (inl refl) (Prim.search rules) };
 
-    ghost flat_sides = { flat_sides Kind.Simplex D (Prim.search rules) (Prim.search rules) };
+    ghost flat_sides = { flat_sides Kind.Simplex 2 (inl refl) (Prim.search rules) };
 
-    ghost own_midpoints = { grid_midpoints Kind.Simplex D (Prim.search rules) (Prim.search rules) };
+    ghost own_midpoints = { grid_midpoints Kind.Simplex 2 (inl refl) (Prim.search rules) };
 
-    ghost joined = { joined Kind.Simplex D (Prim.search rules) (Prim.search rules) };
+    ghost joined = { joined Kind.Simplex 2 (inl refl) (Prim.search rules) };
 
-    ghost turns_kept = { turns_kept Kind.Simplex D (Prim.search rules) (Prim.search rules) };
+    ghost turns_kept = { turns_kept Kind.Simplex 2 (inl refl) (Prim.search rules) };
 
-    ghost shares = { grid_shares Kind.Simplex D (Prim.search rules) (Prim.search rules) };
+    ghost shares = { grid_shares Kind.Simplex 2 (inl refl) (Prim.search rules) };
 
-    ghost stands = { grid_neighbour Kind.Simplex D (Prim.search rules) (Prim.search rules) };
+    ghost stands = { grid_neighbour Kind.Simplex 2 (inl refl) (Prim.search rules) };
 
-    ghost leaves = { grid_boundary Kind.Simplex D (Prim.search rules) (Prim.search rules) };
+    ghost leaves = { grid_boundary Kind.Simplex 2 (inl refl) (Prim.search rules) };
 
-    fn offset(rank: u32, corner: u8) -> [u8; D] {
-        let places = PLACES[order_number::<D>(rank)];
-        let mut offset = [0; D];
-        for axis in 0..D {
-            offset[axis] = offset_at_place(places[axis], corner);
-        }
-        offset
+    fn offset(rank: u32, corner: u8) -> [u8; 2] {
+        simplex_offset(rank, corner)
     }
 
     fn odd(rank: u32) -> bool {
-        ODD[order_number::<D>(rank)]
+        simplex_odd::<2>(rank)
     }
 
-    fn across(rank: u32, facet: u8) -> ([i8; D], u32, u8) {
-        let order = order_number::<D>(rank);
-        let places = PLACES[order];
-        let last = D as u8;
-        let mut shift = [0; D];
-        for axis in 0..D {
-            shift[axis] = shift_of_place(places[axis], facet, last);
-        }
-        (
-            shift,
-            ACROSS[order][facet as usize],
-            facet_across(facet, last),
-        )
+    fn across(rank: u32, facet: u8) -> ([i8; 2], u32, u8) {
+        simplex_across(rank, facet)
     }
+}
+
+impl Split<3> for SimplexCell<3> {
+    ghost PER_CUBE = { 6 };
+
+    const PER_CUBE: u32 = 6;
+
+    ghost counted = { refl };
+
+    ghost few_ranks = { Prim.search rules };
+
+    ghost leads_back = { across_leads_back Kind.Simplex 3 (inr (inl refl)) (Prim.search rules) };
+
+    ghost one_across = { one_across Kind.Simplex 3 (inr (inl refl)) (Prim.search rules) };
+
+    ghost own_corners = { own_corners Kind.Simplex 3 (inr (inl refl)) (Prim.search rules) };
+
+    ghost flat_sides = { flat_sides Kind.Simplex 3 (inr (inl refl)) (Prim.search rules) };
+
+    ghost own_midpoints = { grid_midpoints Kind.Simplex 3 (inr (inl refl)) (Prim.search rules) };
+
+    ghost joined = { joined Kind.Simplex 3 (inr (inl refl)) (Prim.search rules) };
+
+    ghost turns_kept = { turns_kept Kind.Simplex 3 (inr (inl refl)) (Prim.search rules) };
+
+    ghost shares = { grid_shares Kind.Simplex 3 (inr (inl refl)) (Prim.search rules) };
+
+    ghost stands = { grid_neighbour Kind.Simplex 3 (inr (inl refl)) (Prim.search rules) };
+
+    ghost leaves = { grid_boundary Kind.Simplex 3 (inr (inl refl)) (Prim.search rules) };
+
+    fn offset(rank: u32, corner: u8) -> [u8; 3] {
+        simplex_offset(rank, corner)
+    }
+
+    fn odd(rank: u32) -> bool {
+        simplex_odd::<3>(rank)
+    }
+
+    fn across(rank: u32, facet: u8) -> ([i8; 3], u32, u8) {
+        simplex_across(rank, facet)
+    }
+}
+
+impl Split<4> for SimplexCell<4> {
+    ghost PER_CUBE = { 24 };
+
+    const PER_CUBE: u32 = 24;
+
+    ghost counted = { refl };
+
+    ghost few_ranks = { Prim.search rules };
+
+    ghost leads_back = { across_leads_back Kind.Simplex 4 (inr (inr refl)) (Prim.search rules) };
+
+    ghost one_across = { one_across Kind.Simplex 4 (inr (inr refl)) (Prim.search rules) };
+
+    ghost own_corners = { own_corners Kind.Simplex 4 (inr (inr refl)) (Prim.search rules) };
+
+    ghost flat_sides = { flat_sides Kind.Simplex 4 (inr (inr refl)) (Prim.search rules) };
+
+    ghost own_midpoints = { grid_midpoints Kind.Simplex 4 (inr (inr refl)) (Prim.search rules) };
+
+    ghost joined = { joined Kind.Simplex 4 (inr (inr refl)) (Prim.search rules) };
+
+    ghost turns_kept = { turns_kept Kind.Simplex 4 (inr (inr refl)) (Prim.search rules) };
+
+    ghost shares = { grid_shares Kind.Simplex 4 (inr (inr refl)) (Prim.search rules) };
+
+    ghost stands = { grid_neighbour Kind.Simplex 4 (inr (inr refl)) (Prim.search rules) };
+
+    ghost leaves = { grid_boundary Kind.Simplex 4 (inr (inr refl)) (Prim.search rules) };
+
+    fn offset(rank: u32, corner: u8) -> [u8; 4] {
+        simplex_offset(rank, corner)
+    }
+
+    fn odd(rank: u32) -> bool {
+        simplex_odd::<4>(rank)
+    }
+
+    fn across(rank: u32, facet: u8) -> ([i8; 4], u32, u8) {
+        simplex_across(rank, facet)
+    }
+}
+
+// ---- the answers in any of the three dimensions
+
+fn simplex_offset<const D: usize>(rank: u32, corner: u8) -> [u8; D]
+    requires dimension { IsDimension D }
+    requires rank { rank < cells_per_cube Simplex D }
+    requires corner { corner < corner_count Simplex D }
+    ensures offset { result ≡ corner_offset Simplex D rank corner }
+    ensures small { (i : ℕ) → slice_index result i ≤ 2 }
+{
+    let places = PLACES[order_number::<D>(rank)];
+    let mut offset = [0; D];
+    for axis in 0..D {
+        offset[axis] = offset_at_place(places[axis], corner);
+    }
+    offset
+}
+
+fn simplex_odd<const D: usize>(rank: u32) -> bool
+    requires dimension { IsDimension D }
+    requires rank { rank < cells_per_cube Simplex D }
+    ensures { result ≡ is_odd_rank Simplex D rank }
+{
+    ODD[order_number::<D>(rank)]
+}
+
+fn simplex_across<const D: usize>(rank: u32, facet: u8) -> ([i8; D], u32, u8)
+    requires dimension { IsDimension D }
+    requires rank { rank < cells_per_cube Simplex D }
+    requires facet { facet < facet_count Simplex D }
+    ensures shift { result.0 ≡ shift_across Simplex D rank facet }
+    ensures across { IsAcross Simplex D rank facet result.1 result.2 }
+{
+    let order = order_number::<D>(rank);
+    let places = PLACES[order];
+    let last = D as u8;
+    let mut shift = [0; D];
+    for axis in 0..D {
+        shift[axis] = shift_of_place(places[axis], facet, last);
+    }
+    (
+        shift,
+        ACROSS[order][facet as usize],
+        facet_across(facet, last),
+    )
 }
 
 // The facet across a facet: first and last facet stand across from each other, and each other one from its like.
@@ -115,8 +228,6 @@ fn order_number<const D: usize>(rank: u32) -> usize
 {
     FIRST[D - 2] + rank as usize
 }
-
-const ORDERS: [u32; 3] = [2, 6, 24];
 
 const FIRST: [usize; 3] = [0, 2, 8];
 

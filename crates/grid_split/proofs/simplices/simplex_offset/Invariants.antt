@@ -1,8 +1,8 @@
 use Rattle.std.proofs.Common.{◌≡◌, ℕ, ◌+◌, ◌*◌, ◌<◌, [], length, pos, slice_index_or, nat_lt, if◌then◌else◌}
 use Rattle.std.specs.Int.{bit_at}
 use Rattle.grid_split.specs.Shifts.{shift_along_axis, shift_at_place}
-use Rattle.grid_split.proofs.cubes.CubeCellSplit.across.Given as goal
+use Rattle.grid_split.proofs.simplices.simplex_offset.Given as goal
 
 abbrev pub invariant-loop-axis : goal.invariant-loop-axis
 invariant-loop-axis g l =
-    (length l.shift ≡ g.row.D) × ((i : ℕ) → i < l.axis → slice_index_or l.shift i (pos 0) ≡ shift_along_axis i l.facet)
+    (length l.offset ≡ g.row.D) × ((i : ℕ) → i < l.axis → slice_index_or l.offset i 0 ≡ (if nat_lt (slice_index_or l.places i 0) l.corner then 2 else 0))

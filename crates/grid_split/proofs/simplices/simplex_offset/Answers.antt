@@ -11,7 +11,7 @@ use Rattle.std.specs.Prelude.{map}
 use Rattle.iso_model.specs.Points.{axes}
 use Rattle.grid_split.specs.declared.simplices.TheConstants.{PLACES}
 use Rattle.grid_split.proofs.Tables.{simplex_offset}
-use Rattle.grid_split.proofs.simplices.SimplexCellSplit.offset.Goals as goal
+use Rattle.grid_split.proofs.simplices.simplex_offset.Goals as goal
 
 pub returns : goal.returns
 returns g c =

@@ -15,7 +15,7 @@ use Rattle.grid_split.proofs.Tables.{simplex_shift, simplex_next, set_next}
 use Rattle.std.proofs.Common.{Bool, true, false, FitsSigned, w8, to_z, of_z}
 use Rattle.std.specs.Prelude.{negsuc, ◌==◌, ◌&&◌}
 use Rattle.std.proofs.lemmas.Int.{ints, to_z-of_z}
-use Rattle.grid_split.proofs.simplices.SimplexCellSplit.across.Goals as goal
+use Rattle.grid_split.proofs.simplices.simplex_across.Goals as goal
 
 pub returns : goal.returns
 returns g c =
