@@ -154,16 +154,58 @@ mod tests {
     use super::*;
     use std::test::Fail;
 
+    const SQUARE: [(u8, u8); 4] = [(0, 1), (0, 2), (1, 3), (2, 3)];
+
+    const CUBE: [(u8, u8); 12] = [
+        (0, 1),
+        (0, 2),
+        (1, 3),
+        (2, 3),
+        (0, 4),
+        (1, 5),
+        (2, 6),
+        (3, 7),
+        (4, 5),
+        (4, 6),
+        (5, 7),
+        (6, 7),
+    ];
+
     #[test]
-    fn edges_and_facets_of_the_printed_tables(rt: HostRuntime) -> Result<(), Fail> {
-        assert_eq!(rt; <CubeCell<2> as Cell<2>>::edge_ends(2), (1, 3));
-        assert_eq!(rt; <CubeCell<3> as Cell<3>>::edge_ends(9), (4, 6));
+    fn edges_of_the_printed_tables(rt: HostRuntime) -> Result<(), Fail> {
+        for edge in 0..4u8 {
+            assert_eq!(rt;
+                <CubeCell<2> as Cell<2>>::edge_ends(edge),
+                SQUARE[edge as usize]
+            );
+            assert_eq!(rt; PyramidCell::edge_ends(edge), SQUARE[edge as usize]);
+        }
+        for edge in 0..12u8 {
+            assert_eq!(rt;
+                <CubeCell<3> as Cell<3>>::edge_ends(edge),
+                CUBE[edge as usize]
+            );
+        }
+        for corner in 0..4u8 {
+            assert_eq!(rt; PyramidCell::edge_ends(4 + corner), (corner, 4));
+        }
         assert_eq!(rt; <CubeCell<4> as Cell<4>>::edge_ends(31), (14, 15));
         assert_eq!(rt; <SimplexCell<3> as Cell<3>>::edge_ends(5), (2, 3));
-        assert_eq!(rt; PyramidCell::edge_ends(7), (3, 4));
-        assert_eq!(rt; <CubeCell<3> as Cell<3>>::facet_mask(5), 0b1111_0000);
+        Ok(())
+    }
+
+    #[test]
+    fn corners_facets_and_midpoints(rt: HostRuntime) -> Result<(), Fail> {
+        assert_eq!(rt; PyramidCell::corner_at(2).as_slice(), [0, 2, 0].as_slice());
+        assert_eq!(rt; PyramidCell::corner_at(4).as_slice(), [1, 1, 1].as_slice());
+        assert_eq!(rt; PyramidCell::edge_mid(7).as_slice(), [3, 3, 1].as_slice());
         assert_eq!(rt; PyramidCell::facet_mask(4), 0b1_1100);
-        assert_eq!(rt; PyramidCell::edge_mid(4).as_slice(), [1, 1, 1].as_slice());
+        assert_eq!(rt; <CubeCell<3> as Cell<3>>::facet_mask(5), 0b1111_0000);
+        assert_eq!(rt;
+            <SimplexCell<3> as Cell<3>>::corner_at(2).as_slice(),
+            [2, 2, 0].as_slice()
+        );
+        assert_eq!(rt; <CubeCell<4> as Cell<4>>::SEAMS, 4);
         Ok(())
     }
 
@@ -175,7 +217,11 @@ mod tests {
         assert_eq!(rt; last.map.as_slice(), [2, 3, 4, 0, 0, 0, 0, 0].as_slice());
         assert_eq!(rt; last.same, false);
         assert_eq!(rt; <SimplexCell<3> as Cell<3>>::seam(2).same, true);
-        assert_eq!(rt; <CubeCell<4> as Cell<4>>::SEAMS, 4);
+        assert_eq!(rt; <SimplexCell<4> as Cell<4>>::seam(3).same, false);
+        assert_eq!(rt;
+            <CubeCell<3> as Cell<3>>::seam(1).map.as_slice(),
+            [0, 1, 4, 5, 0, 0, 0, 0].as_slice()
+        );
         Ok(())
     }
 }

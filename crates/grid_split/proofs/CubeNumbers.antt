@@ -4,7 +4,6 @@ use Rattle.std.proofs.Math.ListN.{length-set}
 use Rattle.std.proofs.Math.Nat.{mul-le-mul_left, mul-le-mul_right, le_trans}
 use Rattle.std.specs.Prelude.{◌/◌, ◌%◌, slice_index, take, drop, fold, All}
 use Rattle.std.proofs.lemmas.List.Elements.{All-head, All-tail}
-use Rattle.std.proofs.Math.Nat.{mul_comm}
 use Rattle.iso_model.specs.declared.Kind.{Kind}
 use Rattle.iso_model.specs.Splits.{cells_per_cube, cell_count, cube_count, cube_at, cube_of, rank_of, corner, corner_offset}
 use Rattle.iso_model.specs.Points.{point}

@@ -1,6 +1,6 @@
 -- The neighbour across a facet, from the cube that the shift leads to.
-use Rattle.std.proofs.Common.{◌≡◌, ℕ, zero, suc, ◌+◌, ◌-◌, ◌*◌, ◌<◌, ◌≤◌, Bool, true, false, List, length, Option, Some, None, refl, ap, sym, ◌∙◌, subst, arith, inl, inr, ℤ}
-use Rattle.std.specs.Prelude.{◌⊎◌, ◌↔◌, ◌==◌, ◌/◌, ◌%◌, pos, negsuc, ◌+ℤ◌, slice_index, slice_index_or, IsNone, map, if◌then◌else◌}
+use Rattle.std.proofs.Common.{◌≡◌, ℕ, ◌+◌, ◌*◌, ◌<◌, Bool, true, false, List, length, Some, refl, ap, sym, ◌∙◌, subst, arith, inl, inr, ℤ}
+use Rattle.std.specs.Prelude.{◌↔◌, ◌==◌, ◌/◌, ◌%◌, pos, negsuc, ◌+ℤ◌, slice_index, slice_index_or, if◌then◌else◌}
 use Rattle.std.specs.List.{list_all}
 use Rattle.std.proofs.lemmas.Int.{ints}
 use Rattle.std.proofs.lemmas.Nat.{div-mul-add, mod-mul-add, mul-add-lt}
@@ -9,11 +9,10 @@ use Rattle.iso_model.specs.declared.Kind.{Kind}
 use Rattle.iso_model.specs.Cells.{facet_count}
 use Rattle.iso_model.specs.Splits.{cells_per_cube, cell_count, cube_count, cube_at, cube_of, rank_of}
 use Rattle.iso_model.specs.Neighbours.{facet_points, facet_offsets, shift_across, IsAcross, IsNeighbour, OnOuterBoundary}
-use Rattle.split_checks.specs.AcrossTests.{move_across}
 use Rattle.split_laws.specs.Standing.{shift_at, StandsAcross, LeavesGrid}
 use Rattle.split_laws.proofs.Members.{at_numbers}
 use Rattle.split_laws.proofs.Coordinates.{lists_same, length-cube_at, cell_fixed, cube_below, cube_in}
-use Rattle.grid_split.specs.Steps.{IsStep, LeavesAxis, LeavesCubes, IsShiftedCube}
+use Rattle.grid_split.specs.Steps.{IsStep, LeavesCubes, IsShiftedCube}
 
 -- the shift across a facet is a step in each axis
 one_step : (a b : Bool) → IsStep (if a then negsuc 0 else if b then pos 1 else pos 0)

@@ -1,11 +1,10 @@
 -- The number of a cube as a sum over the axes, and back.
-use Rattle.std.proofs.Common.{◌≡◌, ℕ, zero, suc, ◌+◌, ◌-◌, ◌*◌, ◌<◌, ◌≤◌, List, [], ◌∷◌, length, refl, ap, sym, ◌∙◌, subst, arith, add-one}
+use Rattle.std.proofs.Common.{◌≡◌, ℕ, zero, suc, ◌+◌, ◌-◌, ◌*◌, ◌<◌, ◌≤◌, List, [], ◌∷◌, length, ap, sym, ◌∙◌, subst, arith, add-one}
 use Rattle.std.specs.Prelude.{◌/◌, ◌%◌, ◌^◌, slice_index, take, All}
 use Rattle.std.proofs.lemmas.Nat.{div-mul-add, mod-mul-add, mul-add-lt}
 use Rattle.std.proofs.Math.Nat.{mul_comm}
 use Rattle.iso_model.specs.Splits.{cube_count, cube_at}
 use Rattle.iso_model.specs.Values.{product}
-use Rattle.grid_split.proofs.Before.{take_all}
 use Rattle.grid_split.proofs.CubeNumbers.{cube_count_more, few_before}
 
 -- the part of a cube's number that its first i coordinates give

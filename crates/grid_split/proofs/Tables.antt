@@ -1,14 +1,12 @@
 -- The tables of the splits, compared with the definitions by computing.
-use Rattle.std.proofs.Common.{◌≡◌, ℕ, ◌+◌, ◌-◌, ◌*◌, ◌%◌, ◌<◌, Bool, true, false, List, [], ◌∷◌, length, refl, ap, sym, ◌∙◌, subst, arith, ℤ, pos, ◌≢◌, slice_index_or, slice_set, get_or-set_other, get_or-set_same, below_more}
+use Rattle.std.proofs.Common.{◌≡◌, ℕ, ◌+◌, ◌-◌, ◌*◌, ◌%◌, ◌<◌, false, List, [], length, refl, ap, sym, ◌∙◌, arith, ℤ, pos, ◌≢◌, slice_index_or, slice_set, get_or-set_other, get_or-set_same, below_more}
 use Rattle.std.proofs.Math.ListN.{length-set}
-use Rattle.std.specs.Prelude.{map, nat_lt, ◌==◌, if◌then◌else◌}
-use Rattle.iso_model.specs.declared.Kind.{Kind}
+use Rattle.std.specs.Prelude.{map, nat_lt, if◌then◌else◌}
 use Rattle.iso_model.specs.declared.Kind.TheVariants.{Cube, Simplex, Pyramid}
 use Rattle.iso_model.specs.Orders.{numbers}
 use Rattle.iso_model.specs.Points.{axes}
-use Rattle.iso_model.specs.Cells.{facet_count}
 use Rattle.iso_model.specs.Splits.{cells_per_cube, corner_offset, is_odd_rank}
-use Rattle.iso_model.specs.Neighbours.{shift_across, facet_offsets}
+use Rattle.iso_model.specs.Neighbours.{shift_across}
 use Rattle.cell_lattice.specs.Dimensions.{IsDimension, in_each_dimension}
 use Rattle.cell_lattice.specs.Agreement.{agree, agree_in_each}
 use Rattle.split_checks.specs.AcrossTests.{next_across, next_at, all_facets, facet_at, move_across}

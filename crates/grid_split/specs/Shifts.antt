@@ -1,5 +1,5 @@
 -- How a cube moves across a facet, axis by axis, and where the orders of axes stand in their tables.
-use Rattle.std.specs.Prelude.{ℕ, zero, suc, ◌+◌, ◌-◌, ◌/◌, ◌%◌, ◌==◌, ◌&&◌, ℤ, pos, negsuc, if◌then◌else◌}
+use Rattle.std.specs.Prelude.{ℕ, zero, suc, ◌-◌, ◌/◌, ◌%◌, ◌==◌, ◌&&◌, ℤ, pos, negsuc, if◌then◌else◌}
 
 -- across facet 2i + s of a cube, the cube moves down (s = 0) or up (s = 1) along axis i
 abbrev pub shift_along_axis : ℕ → ℕ → ℤ

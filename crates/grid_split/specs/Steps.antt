@@ -1,5 +1,5 @@
 -- Steps from one cube of a grid to the next.
-use Rattle.std.specs.Prelude.{◌≡◌, ℕ, suc, ◌+◌, ◌-◌, ◌<◌, ◌⊎◌, ℤ, pos, negsuc, ◌+ℤ◌, List, length, slice_index, slice_index_or}
+use Rattle.std.specs.Prelude.{◌≡◌, ℕ, suc, ◌+◌, ◌-◌, ◌<◌, ◌⊎◌, ℤ, pos, negsuc, ◌+ℤ◌, List, slice_index, slice_index_or}
 use Rattle.iso_model.specs.Splits.{cube_count, cube_at}
 
 -- one down, none, or one up

@@ -1,5 +1,5 @@
 -- What a complex keeps of a grid: the cubes along each axis, and by how much a cube's number grows along each axis.
-use Rattle.std.specs.Prelude.{◌≡◌, ℕ, ◌+◌, ◌-◌, ◌^◌, ◌<◌, ◌≤◌, List, length, map, take, slice_index, All}
+use Rattle.std.specs.Prelude.{◌≡◌, ℕ, ◌-◌, ◌^◌, ◌<◌, ◌≤◌, List, length, take, slice_index, All}
 use Rattle.iso_model.specs.declared.Kind.{Kind}
 use Rattle.iso_model.specs.Splits.{cube_count, cell_count}
 use Rattle.iso_model.specs.Values.{product}

@@ -58,10 +58,12 @@ impl<C: Split<D>, const D: usize> Complex<C, D> {
         }
     }
 
-    /// The number of cells, 0 where a size is 1.
+    /// The number of cells, 0 where a size is 1. A complex has D sizes of at least 1 and at most 2^27 samples.
     pub fn cells(&self) -> u64
         ensures count { result ≡ cell_count C.KIND self.now }
         ensures axes { length self.now ≡ D }
+        ensures some { All (λ n. 1 ≤ n) self.now }
+        ensures samples { product self.now ≤ 2 ^ 27 }
         ensures few { result ≤ 2 ^ 32 }
     {
         self.count

@@ -1,6 +1,5 @@
 -- Each rank of each kind is the canonical cell, its axes in another order.
-use Rattle.std.proofs.Common.{◌≡◌, ℕ, true, refl}
-use Rattle.std.specs.List.{range_with_len}
+use Rattle.std.proofs.Common.{◌≡◌, true, refl}
 use Rattle.iso_model.specs.declared.Kind.TheVariants.{Cube, Simplex, Pyramid}
 use Rattle.iso_model.specs.Orders.{numbers}
 use Rattle.split_checks.specs.ColumnTests.{all_placed}

@@ -1,6 +1,5 @@
 -- The tests of corners, sides and edges of each kind, passed.
-use Rattle.std.proofs.Common.{◌≡◌, ℕ, true, refl}
-use Rattle.std.specs.List.{range_with_len}
+use Rattle.std.proofs.Common.{◌≡◌, true, refl}
 use Rattle.iso_model.specs.declared.Kind.TheVariants.{Cube, Simplex, Pyramid}
 use Rattle.iso_model.specs.Orders.{numbers}
 use Rattle.split_checks.specs.CornerTests.{all_corners_fit}

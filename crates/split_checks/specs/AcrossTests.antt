@@ -1,5 +1,5 @@
 -- What stands across a facet, tested for each facet of each cell of a cube.
-use Rattle.std.specs.Prelude.{ℕ, zero, suc, ◌+◌, ◌-◌, ◌*◌, ◌%◌, ◌==◌, nat_lt, Bool, true, false, not, ◌&&◌, ◌||◌, List, [], ◌∷◌, ◌++◌, map, length, take, drop, slice_index, slice_index_or, if◌then◌else◌}
+use Rattle.std.specs.Prelude.{ℕ, ◌+◌, ◌-◌, ◌*◌, ◌%◌, ◌==◌, nat_lt, Bool, true, false, not, ◌&&◌, ◌||◌, List, [], ◌∷◌, ◌++◌, map, take, drop, slice_index, slice_index_or, if◌then◌else◌}
 use Rattle.std.specs.List.{list_all, list_any, position_or_len}
 use Rattle.iso_model.specs.declared.Kind.{Kind}
 use Rattle.iso_model.specs.declared.Kind.TheVariants.{Cube, Simplex, Pyramid}
@@ -7,7 +7,7 @@ use Rattle.iso_model.specs.Orders.{numbers, orders, same_list}
 use Rattle.iso_model.specs.Points.{axes}
 use Rattle.iso_model.specs.Cells.{facet_count, facet_corners}
 use Rattle.iso_model.specs.Seams.{Seam, seams, corner_across}
-use Rattle.iso_model.specs.Splits.{cells_per_cube, corner_offset, axis_order, is_odd_rank}
+use Rattle.iso_model.specs.Splits.{cells_per_cube, corner_offset, is_odd_rank}
 use Rattle.iso_model.specs.Neighbours.{facet_offsets}
 use Rattle.split_checks.specs.Moves.{meets, move_to, stays, same_places}
 

@@ -1,5 +1,5 @@
 -- Corners and edges of the cells of a cube, tested one by one.
-use Rattle.std.specs.Prelude.{ℕ, ◌+◌, ◌*◌, ◌/◌, ◌==◌, nat_le, Bool, not, ◌&&◌, ◌||◌, List, map, length, slice_index}
+use Rattle.std.specs.Prelude.{ℕ, ◌+◌, ◌*◌, ◌/◌, ◌==◌, nat_le, Bool, not, ◌&&◌, ◌||◌, List, length, slice_index}
 use Rattle.std.specs.List.{list_all, list_any}
 use Rattle.iso_model.specs.declared.Kind.{Kind}
 use Rattle.iso_model.specs.Orders.{numbers, same_list}

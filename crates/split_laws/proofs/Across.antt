@@ -1,25 +1,23 @@
 -- What stands across a facet of a cell of a cube, from the tests.
-use Rattle.std.proofs.Common.{◌≡◌, ℕ, zero, suc, ◌+◌, ◌-◌, ◌*◌, ◌<◌, ◌≤◌, Bool, true, false, not, ◌&&◌, ◌||◌, List, [], ◌∷◌, length, get_or, refl, ap, sym, ◌∙◌, subst, arith, inl, inr, ℤ}
-use Rattle.std.specs.Prelude.{◌≢◌, ◌⊎◌, ◌==◌, ◌↔◌, nat_lt, pos, negsuc, neg_ℤ, ◌+ℤ◌, ◌-ℤ◌, ◌*ℤ◌, slice_index, slice_index_or, map, Contains, Any, IsTrue, if◌then◌else◌}
-use Rattle.std.specs.List.{range_with_len, list_all, list_any}
+use Rattle.std.proofs.Common.{◌≡◌, ℕ, ◌+◌, ◌-◌, ◌*◌, ◌<◌, Bool, true, false, not, ◌&&◌, ◌||◌, List, [], ◌∷◌, length, get_or, refl, ap, sym, ◌∙◌, subst, arith, inl, inr, ℤ}
+use Rattle.std.specs.Prelude.{◌≢◌, ◌⊎◌, ◌==◌, nat_lt, pos, negsuc, neg_ℤ, ◌+ℤ◌, ◌-ℤ◌, ◌*ℤ◌, slice_index, slice_index_or, map, Contains, if◌then◌else◌}
+use Rattle.std.specs.List.{list_all, list_any}
 use Rattle.std.proofs.lemmas.Bool.{eqb-true, ltb-true}
 use Rattle.std.proofs.lemmas.Bool.Decides.{nat_tests}
 use Rattle.std.proofs.lemmas.Int.{ints}
-use Rattle.std.proofs.lemmas.List.{length-map, get_or-map}
+use Rattle.std.proofs.lemmas.List.{length-map}
 use Rattle.std.proofs.lemmas.List.FromFn.{length-map-range_with_len}
 use Rattle.iso_model.specs.declared.Kind.{Kind}
 use Rattle.iso_model.specs.Orders.{numbers, same_list}
 use Rattle.iso_model.specs.Points.{axes}
-use Rattle.iso_model.specs.Cells.{corner_count, facet_count, facet_corners, corner_in_facet}
-use Rattle.iso_model.specs.Seams.{Seam, seams, corner_across}
-use Rattle.iso_model.specs.Splits.{cells_per_cube, corner_offset, is_odd_rank}
+use Rattle.iso_model.specs.Cells.{facet_count, facet_corners}
+use Rattle.iso_model.specs.Splits.{cells_per_cube, corner_offset}
 use Rattle.iso_model.specs.Neighbours.{facet_offsets, shift_across, shifted, IsAcross}
-use Rattle.iso_model.specs.SplitLaws.{LeadsBack, AcrossLeadsBack, Joins, AreJoined}
 use Rattle.split_checks.specs.Moves.{meets, move_to, stays, same_places}
-use Rattle.split_checks.specs.AcrossTests.{next_across, next_at, all_facets, facet_at, move_across, is_known, all_known, is_across, across_at, across_of, leads_back_at, all_lead_back, same_truth, joins, are_joined, joined_with}
-use Rattle.split_laws.proofs.Members.{and_left, and_right, both, or_true, not_or, not_true, In, In_from, Contains_from, In-map, from_In-map, from_any, any_from, all_In, all_from, In-numbers, from_In-numbers, all_below, at_numbers}
-use Rattle.split_laws.proofs.Coordinates.{Meet, meet_from, move_is}
-use Rattle.split_laws.proofs.Offsets.{OffsetsFit, in_facet, of_facet, lists_equal}
+use Rattle.split_checks.specs.AcrossTests.{next_across, next_at, all_facets, facet_at, move_across, is_known, all_known, is_across, across_at, across_of}
+use Rattle.split_laws.proofs.Members.{and_left, and_right, both, or_true, not_true, In, In_from, Contains_from, In-map, from_In-map, from_any, any_from, all_In, all_from, all_below, at_numbers}
+use Rattle.split_laws.proofs.Coordinates.{meet_from, move_is}
+use Rattle.split_laws.proofs.Offsets.{OffsetsFit, in_facet, lists_equal}
 
 -- ---- shifts and moves: a move has one more
 

@@ -1,21 +1,21 @@
 -- The laws of what stands across: it leads back, and seams join the two facets.
-use Rattle.std.proofs.Common.{◌≡◌, ℕ, zero, suc, ◌+◌, ◌-◌, ◌<◌, ◌≤◌, Bool, true, false, not, ◌&&◌, ◌||◌, List, [], ◌∷◌, length, refl, ap, sym, ◌∙◌, subst, arith, inl, inr, ℤ}
-use Rattle.std.specs.Prelude.{◌≢◌, ◌⊎◌, ◌==◌, ◌↔◌, pos, negsuc, neg_ℤ, ◌-ℤ◌, slice_index, map, Any, IsTrue, if◌then◌else◌}
-use Rattle.std.specs.List.{range_with_len, list_all, list_any}
+use Rattle.std.proofs.Common.{◌≡◌, ℕ, ◌<◌, Bool, true, false, ◌&&◌, ◌||◌, List, refl, ap, sym, ◌∙◌, subst, inl, inr, ℤ}
+use Rattle.std.specs.Prelude.{◌⊎◌, ◌==◌, neg_ℤ, slice_index, map, Any}
+use Rattle.std.specs.List.{list_all}
 use Rattle.std.proofs.lemmas.Bool.{eqb-true}
 use Rattle.iso_model.specs.declared.Kind.{Kind}
 use Rattle.iso_model.specs.Orders.{numbers}
 use Rattle.iso_model.specs.Points.{axes}
-use Rattle.iso_model.specs.Cells.{corner_count, facet_count, facet_corners, corner_in_facet}
+use Rattle.iso_model.specs.Cells.{facet_count, facet_corners}
 use Rattle.iso_model.specs.Seams.{Seam, seams, corner_across}
 use Rattle.iso_model.specs.Splits.{cells_per_cube, corner_offset, is_odd_rank}
 use Rattle.iso_model.specs.Neighbours.{facet_offsets, shift_across, shifted, IsAcross}
 use Rattle.iso_model.specs.SplitLaws.{LeadsBack, AcrossLeadsBack, Joins, AreJoined}
 use Rattle.split_checks.specs.Moves.{meets}
-use Rattle.split_checks.specs.AcrossTests.{next_across, next_at, move_across, leads_back_at, leads_back_with, all_lead_back, same_truth, joins, are_joined, joined_with}
-use Rattle.split_laws.proofs.Members.{and_left, and_right, or_true, In, Contains_from, from_any, all_In, all_below}
+use Rattle.split_checks.specs.AcrossTests.{next_across, next_at, move_across, leads_back_at, all_lead_back, same_truth, joins, are_joined, joined_with}
+use Rattle.split_laws.proofs.Members.{and_left, and_right, or_true, Contains_from, from_any, all_In, all_below}
 use Rattle.split_laws.proofs.Offsets.{OffsetsFit, of_facet}
-use Rattle.split_laws.proofs.Across.{less_one, one_move, shift_is, back_list, shifted_from, next_of, FoundAcross, AcrossPass, HaveCorners, found_at, only_across, next_is_across}
+use Rattle.split_laws.proofs.Across.{less_one, shift_is, back_list, shifted_from, next_of, FoundAcross, AcrossPass, HaveCorners, found_at, only_across, next_is_across}
 
 -- two tests that agree
 pub same_truth_is : (a b : Bool) → same_truth a b ≡ true → a ≡ b

@@ -1,14 +1,14 @@
 -- Different edges of a grid have different midpoints: the sum of the two ends tells both.
-use Rattle.std.proofs.Common.{◌≡◌, ℕ, zero, suc, ◌+◌, ◌-◌, ◌*◌, ◌<◌, ◌≤◌, Bool, true, false, ◌&&◌, ◌||◌, List, [], ◌∷◌, length, refl, ap, sym, ◌∙◌, subst, arith, inl, inr}
-use Rattle.std.specs.Prelude.{◌⊎◌, ◌/◌, nat_lt, slice_index, if◌then◌else◌}
+use Rattle.std.proofs.Common.{◌≡◌, ℕ, zero, suc, ◌+◌, ◌-◌, ◌*◌, ◌<◌, Bool, true, false, ◌&&◌, List, [], ◌∷◌, length, refl, ap, sym, ◌∙◌, subst, arith, inl, inr}
+use Rattle.std.specs.Prelude.{◌⊎◌, nat_lt, slice_index, if◌then◌else◌}
 use Rattle.std.proofs.lemmas.Bool.{cases_lt, cases_eq}
 use Rattle.std.proofs.lemmas.Bool.Decides.{nat_tests}
 use Rattle.iso_model.specs.declared.Kind.{Kind}
 use Rattle.iso_model.specs.Orders.{same_list}
 use Rattle.iso_model.specs.Points.{point, plus, comes_first}
-use Rattle.iso_model.specs.Cells.{corner_count, edge_count, edge_ends}
-use Rattle.iso_model.specs.Splits.{cells_per_cube, corner_offset, cell_count, cube_of, rank_of, corner, Edge, edge, edge_of_ends, midpoint}
-use Rattle.iso_model.specs.Neighbours.{HasEdge, HaveOwnMidpoints}
+use Rattle.iso_model.specs.Cells.{edge_count, edge_ends}
+use Rattle.iso_model.specs.Splits.{corner_offset, cube_of, rank_of, corner, Edge, edge, edge_of_ends, midpoint}
+use Rattle.iso_model.specs.Neighbours.{HaveOwnMidpoints}
 use Rattle.split_checks.specs.CornerTests.{even_part}
 use Rattle.split_laws.proofs.Coordinates.{coordinate, length-point, lists_same}
 use Rattle.split_laws.proofs.Offsets.{OffsetsFit, EvenEnd, lists_equal, equal_lists}

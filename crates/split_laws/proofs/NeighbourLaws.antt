@@ -1,23 +1,21 @@
 -- The neighbour across a facet in a grid of any sizes: where it stands, and where there is none.
-use Rattle.std.proofs.Common.{◌≡◌, ℕ, zero, suc, ◌+◌, ◌-◌, ◌*◌, ◌<◌, ◌≤◌, Bool, true, false, ◌&&◌, List, [], ◌∷◌, length, get_or, refl, ap, sym, ◌∙◌, subst, arith, inl, inr, ℤ}
-use Rattle.std.specs.Prelude.{◌≢◌, ◌⊎◌, ◌==◌, ◌↔◌, ◌/◌, pos, negsuc, ◌+ℤ◌, ◌-ℤ◌, slice_index, slice_index_or, map, All, Contains, if◌then◌else◌}
-use Rattle.std.specs.List.{range_with_len, list_all, list_any}
+use Rattle.std.proofs.Common.{◌≡◌, ℕ, suc, ◌+◌, ◌-◌, ◌*◌, ◌<◌, Bool, true, false, List, [], ◌∷◌, length, get_or, refl, ap, sym, ◌∙◌, subst, arith, inl, inr, ℤ}
+use Rattle.std.specs.Prelude.{◌≢◌, ◌==◌, ◌/◌, pos, negsuc, ◌+ℤ◌, slice_index, slice_index_or, All}
+use Rattle.std.specs.List.{list_all}
 use Rattle.std.proofs.lemmas.Bool.{eqb-true}
 use Rattle.std.proofs.lemmas.Bool.Decides.{nat_tests}
 use Rattle.std.proofs.lemmas.Int.{ints}
-use Rattle.std.proofs.lemmas.List.{length-map, get_or-map}
+use Rattle.std.proofs.lemmas.List.{get_or-map}
 use Rattle.std.proofs.lemmas.List.Elements.{All-contains}
 use Rattle.iso_model.specs.declared.Kind.{Kind}
-use Rattle.iso_model.specs.Orders.{numbers}
-use Rattle.iso_model.specs.Points.{axes}
-use Rattle.iso_model.specs.Cells.{corner_count, facet_count, facet_corners}
+use Rattle.iso_model.specs.Cells.{facet_count, facet_corners}
 use Rattle.iso_model.specs.Splits.{cells_per_cube, corner_offset, cell_count, cube_of, rank_of, corner}
-use Rattle.iso_model.specs.Neighbours.{facet_points, SamePoints, OnOuterBoundary, IsNeighbour, facet_offsets, shift_across, IsAcross}
-use Rattle.split_checks.specs.Moves.{meets, move_to, stays, same_places}
+use Rattle.iso_model.specs.Neighbours.{facet_points, SamePoints, OnOuterBoundary, IsNeighbour, facet_offsets, IsAcross}
+use Rattle.split_checks.specs.Moves.{move_to, stays}
 use Rattle.split_checks.specs.AcrossTests.{move_across, is_known}
 use Rattle.split_laws.specs.Standing.{shift_at, StandsAcross, LeavesGrid}
-use Rattle.split_laws.proofs.Members.{and_left, and_right, In, In_from, Contains_from, In-map, from_In-map, all_In, all_from, at_numbers, All-from_In}
-use Rattle.split_laws.proofs.Coordinates.{lists_same, length-cube_at, cell_fixed, cube_below, cube_in}
+use Rattle.split_laws.proofs.Members.{In, In_from, Contains_from, In-map, from_In-map, all_In, all_from, at_numbers, All-from_In}
+use Rattle.split_laws.proofs.Coordinates.{cell_fixed, cube_below, cube_in}
 use Rattle.split_laws.proofs.Offsets.{OffsetsFit, in_facet}
 use Rattle.split_laws.proofs.Placement.{Moved, below, coordinate_of, small_offset, moved_by, stands_there, same_points, places_same}
 use Rattle.split_laws.proofs.Across.{less_one, one_move, shift_is, length-move, next_of, FoundAcross, AcrossPass, HaveCorners, In_first, known_cases, found_at, places_from, only_across, next_is_across}

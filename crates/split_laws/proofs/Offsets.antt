@@ -1,17 +1,17 @@
 -- What the corner tests say of the offsets of the cells of a cube.
-use Rattle.std.proofs.Common.{◌≡◌, ℕ, zero, suc, ◌+◌, ◌*◌, ◌<◌, ◌≤◌, Bool, true, false, not, ◌&&◌, ◌||◌, List, [], ◌∷◌, length, refl, ap, sym, ◌∙◌, subst, arith, inl, inr}
-use Rattle.std.specs.Prelude.{◌⊎◌, ◌==◌, nat_le, slice_index, map, Any}
-use Rattle.std.specs.List.{range_with_len, list_all, list_any}
+use Rattle.std.proofs.Common.{◌≡◌, ℕ, zero, suc, ◌+◌, ◌<◌, ◌≤◌, Bool, true, not, ◌&&◌, ◌||◌, List, [], ◌∷◌, length, ap, ◌∙◌, arith, inl, inr}
+use Rattle.std.specs.Prelude.{◌⊎◌, ◌==◌, nat_le, slice_index}
+use Rattle.std.specs.List.{list_all, list_any}
 use Rattle.std.proofs.lemmas.Bool.{eqb-true, leb-true}
 use Rattle.std.proofs.lemmas.Slice.Eq.{bytes_eq-Decides}
 use Rattle.iso_model.specs.declared.Kind.{Kind}
 use Rattle.iso_model.specs.Orders.{numbers, same_list}
-use Rattle.iso_model.specs.Points.{axes, point}
+use Rattle.iso_model.specs.Points.{point}
 use Rattle.iso_model.specs.Cells.{corner_count, edge_count, edge_ends, facet_count, facet_corners, corner_in_facet}
 use Rattle.iso_model.specs.Splits.{cells_per_cube, corner_offset}
 use Rattle.iso_model.specs.SplitLaws.{HasOwnCorners, corners_at, facets_over, AreFacetOrLess, HasFlatSides}
 use Rattle.split_checks.specs.CornerTests.{is_offset, has_own_corners, are_facet_or_less, has_flat_sides, even_part, is_even_end, has_even_end, corners_fit, all_corners_fit}
-use Rattle.split_laws.proofs.Members.{and_left, and_right, or_true, not_true, In, Contains_from, from_any, all_In, In-numbers, from_In-numbers, all_below, from_filter, In-filter}
+use Rattle.split_laws.proofs.Members.{and_left, and_right, or_true, not_true, In, Contains_from, from_any, In-numbers, from_In-numbers, all_below, from_filter, In-filter}
 use Rattle.split_laws.proofs.Coordinates.{coordinate}
 
 -- ---- tests of lists

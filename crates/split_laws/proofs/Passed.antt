@@ -1,19 +1,18 @@
 -- The tests of the splits, passed by each kind in each dimension.
-use Rattle.std.proofs.Common.{◌≡◌, ℕ, zero, suc, ◌+◌, ◌<◌, ◌≤◌, Bool, true, false, List, length, refl, ap, sym, ◌∙◌, subst, arith, inl, inr}
-use Rattle.std.specs.Prelude.{◌⊎◌, map, nat_lt}
+use Rattle.std.proofs.Common.{◌≡◌, ℕ, ◌+◌, ◌<◌, ◌≤◌, Bool, true, length, refl, arith, inl, inr}
+use Rattle.std.specs.Prelude.{map, nat_lt}
 use Rattle.std.specs.List.{range_with_len, list_all}
 use Rattle.std.proofs.lemmas.Bool.{cases_lt, ltb-true}
 use Rattle.iso_model.specs.declared.Kind.{Kind}
 use Rattle.iso_model.specs.declared.Kind.TheVariants.{Cube, Simplex, Pyramid}
 use Rattle.iso_model.specs.Orders.{numbers}
-use Rattle.iso_model.specs.Cells.{HasDimension, corner_count, edge_count, edge_ends, facet_count, facet_corners}
+use Rattle.iso_model.specs.Cells.{HasDimension, facet_count, facet_corners}
 use Rattle.iso_model.specs.Splits.{cells_per_cube}
 use Rattle.cell_lattice.specs.Dimensions.{IsDimension, of_each_cell}
 use Rattle.cell_lattice.specs.Agreement.{agree}
 use Rattle.cell_lattice.specs.CellLemmas.{ordered_ends}
 use Rattle.split_checks.specs.ShareTests.{shares_of, all_offsets}
 use Rattle.split_checks.specs.AcrossTests.{next_across, all_facets, across_of, all_lead_back, joined_with}
-use Rattle.split_checks.specs.CornerTests.{all_corners_fit}
 use Rattle.split_checks.specs.ColumnTests.{is_placed_rank}
 use Rattle.split_checks.proofs.SharesFound.{squares_share, cubes_share, hypercubes_share, triangles_share, tetrahedra_share, four_axes_0_share, four_axes_3_share, four_axes_6_share, four_axes_9_share, four_axes_12_share, four_axes_15_share, four_axes_18_share, four_axes_21_share, pyramids_share}
 use Rattle.split_checks.proofs.AcrossFound.{squares_across, squares_joined, squares_lead_back, cubes_across, cubes_joined, cubes_lead_back, hypercubes_across, hypercubes_joined, hypercubes_lead_back, triangles_across, triangles_joined, triangles_lead_back, tetrahedra_across, tetrahedra_joined, tetrahedra_lead_back, four_axes_0_across, four_axes_6_across, four_axes_12_across, four_axes_18_across, four_axes_0_joined, four_axes_12_joined, four_axes_lead_back, pyramids_across, pyramids_joined, pyramids_lead_back}

@@ -1,18 +1,16 @@
 -- Two cells of a grid that share a corner: how their cubes stand, and which of their corners are the same points.
-use Rattle.std.proofs.Common.{◌≡◌, ℕ, zero, suc, ◌+◌, ◌-◌, ◌*◌, ◌<◌, ◌≤◌, Bool, true, false, ◌&&◌, List, [], ◌∷◌, length, refl, ap, sym, ◌∙◌, subst, arith, inl, inr}
-use Rattle.std.specs.Prelude.{◌/◌, ◌==◌, slice_index, slice_index_or, map, Contains, ◌↔◌}
-use Rattle.std.specs.List.{range_with_len, list_all, list_any}
+use Rattle.std.proofs.Common.{◌≡◌, ℕ, zero, suc, ◌+◌, ◌*◌, ◌<◌, ◌≤◌, true, List, [], ◌∷◌, length, refl, ap, sym, ◌∙◌, subst, arith, inl, inr}
+use Rattle.std.specs.Prelude.{◌/◌, ◌==◌, slice_index, slice_index_or, map}
+use Rattle.std.specs.List.{list_all, list_any}
 use Rattle.std.proofs.lemmas.Bool.{eqb-true}
 use Rattle.iso_model.specs.declared.Kind.{Kind}
-use Rattle.iso_model.specs.Orders.{numbers}
-use Rattle.iso_model.specs.Points.{point}
-use Rattle.iso_model.specs.Cells.{corner_count, facet_corners, corner_in_facet}
-use Rattle.iso_model.specs.Splits.{cells_per_cube, corner_offset, cell_count, cube_of, rank_of, corner}
+use Rattle.iso_model.specs.Cells.{corner_count, facet_corners}
+use Rattle.iso_model.specs.Splits.{cells_per_cube, corner_offset, cube_of, rank_of, corner}
 use Rattle.iso_model.specs.Neighbours.{facet_points, SamePoints, facet_offsets}
 use Rattle.split_checks.specs.Moves.{meets, move_to, stays, offsets, facet_of, same_places}
-use Rattle.split_laws.proofs.Members.{and_left, and_right, both, In, In_from, Contains_from, In-map, from_In-map, from_any, any_from, all_In, all_from, In-numbers, at_numbers}
-use Rattle.split_laws.proofs.Coordinates.{coordinate, length-point, length-cube_at, lists_same, points_same, rank_below, Meet, meet_from, meets_from, length-move_to, move_to_at}
-use Rattle.split_laws.proofs.Offsets.{OffsetsFit, in_facet, of_facet}
+use Rattle.split_laws.proofs.Members.{and_left, and_right, both, In, In_from, Contains_from, In-map, from_In-map, from_any, any_from, all_In, all_from, at_numbers}
+use Rattle.split_laws.proofs.Coordinates.{coordinate, length-cube_at, lists_same, points_same, rank_below, meet_from, meets_from, length-move_to, move_to_at}
+use Rattle.split_laws.proofs.Offsets.{OffsetsFit, in_facet}
 
 pub map_same : {X : Type 0} (f g : ℕ → X) (xs : List ℕ) → ((x : ℕ) → In x xs → f x ≡ g x) → map f xs ≡ map g xs
 map_same f g [] same = refl

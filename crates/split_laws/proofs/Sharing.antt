@@ -1,22 +1,22 @@
 -- The share law of a split, in a grid of any sizes, from the share tests.
-use Rattle.std.proofs.Common.{◌≡◌, ℕ, zero, suc, ◌+◌, ◌<◌, ◌≤◌, Bool, true, false, not, ◌&&◌, ◌||◌, List, [], ◌∷◌, length, get_or, refl, ap, sym, ◌∙◌, subst, arith, inl, inr}
-use Rattle.std.specs.Prelude.{◌≢◌, ◌⊎◌, ◌==◌, slice_index, slice_index_or, map, filter, All, Contains, IsTrue, if◌then◌else◌}
-use Rattle.std.specs.List.{range_with_len, list_all, list_any}
+use Rattle.std.proofs.Common.{◌≡◌, ℕ, ◌<◌, ◌≤◌, Bool, true, false, not, ◌&&◌, ◌||◌, List, [], ◌∷◌, length, refl, ap, sym, ◌∙◌, subst, arith, inl, inr}
+use Rattle.std.specs.Prelude.{◌≢◌, ◌⊎◌, ◌==◌, slice_index_or, All, Contains, IsTrue, if◌then◌else◌}
+use Rattle.std.specs.List.{list_all}
 use Rattle.std.proofs.lemmas.Bool.{eqb-true}
 use Rattle.std.proofs.lemmas.List.Elements.{All-contains, All-nil}
 use Rattle.iso_model.specs.declared.Kind.{Kind}
 use Rattle.iso_model.specs.Orders.{numbers}
 use Rattle.iso_model.specs.Points.{comes_first}
 use Rattle.iso_model.specs.Cells.{corner_count, edge_count, edge_ends, facet_count, facet_corners, corner_in_facet, edge_in_facet, facets_with}
-use Rattle.iso_model.specs.Splits.{cells_per_cube, corner_offset, cell_count, cube_of, rank_of, corner, Edge, edge, edge_of_ends}
-use Rattle.iso_model.specs.Neighbours.{facet_points, SamePoints, facet_offsets, LiesIn, HasEdge, IsNeighbour, AreShared, ShareLaw}
+use Rattle.iso_model.specs.Splits.{cells_per_cube, corner_offset, cell_count, rank_of, corner, Edge, edge, edge_of_ends}
+use Rattle.iso_model.specs.Neighbours.{facet_points, SamePoints, facet_offsets, LiesIn, HasEdge, AreShared, ShareLaw}
 use Rattle.iso_model.specs.SplitLaws.{facets_over}
 use Rattle.split_checks.specs.Moves.{meets, move_to, stays, offsets, facet_of, same_places}
-use Rattle.split_checks.specs.ShareTests.{is_common, common, lie_well, shares_at, shares_with, shares_of, all_offsets, all_share}
-use Rattle.split_laws.proofs.Members.{and_left, and_right, both, or_true, not_or, In, In_from, Contains_from, In-map, from_In-map, from_any, any_from, all_In, all_from, In-numbers, from_In-numbers, all_below, In-filter, from_filter, Distinct, Distinct-filter, Distinct-range, at_numbers, All-from_In}
+use Rattle.split_checks.specs.ShareTests.{is_common, common, lie_well, shares_at, shares_with, shares_of, all_offsets}
+use Rattle.split_laws.proofs.Members.{and_left, and_right, both, or_true, not_or, In, Contains_from, In-map, from_any, any_from, all_In, all_from, In-numbers, from_In-numbers, all_below, In-filter, from_filter, Distinct, Distinct-filter, Distinct-range, at_numbers, All-from_In}
 use Rattle.split_laws.proofs.Coordinates.{cell_fixed}
-use Rattle.split_laws.proofs.Offsets.{OffsetsFit, in_facet, of_facet}
-use Rattle.split_laws.proofs.Placement.{facet_of_offsets, Moved, below, moved_by, meet_where_same, same_where_meet, stands_there, same_points}
+use Rattle.split_laws.proofs.Offsets.{OffsetsFit, of_facet}
+use Rattle.split_laws.proofs.Placement.{facet_of_offsets, Moved, below, moved_by, meet_where_same, stands_there, same_points}
 
 -- corner k of the cell c is a corner of the cell e
 abbrev pub IsShared : Kind → List ℕ → ℕ → ℕ → ℕ → Type 0

@@ -1,20 +1,20 @@
 -- The turn of differences of points of a placed cell is that of the canonical cell, negated where the cell is odd.
-use Rattle.std.proofs.Common.{◌≡◌, ℕ, zero, suc, ◌+◌, ◌-◌, ◌<◌, ◌≤◌, Bool, true, false, ◌&&◌, List, [], ◌∷◌, length, get_or, refl, ap, sym, ◌∙◌, subst, arith, ℤ}
-use Rattle.std.specs.Prelude.{map, pos, ◌+ℤ◌, ◌-ℤ◌, neg_ℤ, ◌==◌, slice_index, slice_index_or, nat_lt, nat_le, All, if◌then◌else◌}
-use Rattle.std.specs.List.{range_with_len, list_all}
+use Rattle.std.proofs.Common.{◌≡◌, ℕ, zero, suc, ◌+◌, ◌-◌, ◌<◌, ◌≤◌, Bool, true, false, ◌&&◌, List, [], ◌∷◌, length, refl, ap, sym, ◌∙◌, arith, ℤ}
+use Rattle.std.specs.Prelude.{map, pos, ◌-ℤ◌, ◌==◌, slice_index, slice_index_or, nat_lt, nat_le, All, if◌then◌else◌}
+use Rattle.std.specs.List.{list_all}
 use Rattle.std.proofs.lemmas.Bool.{eqb-true, ltb-true}
-use Rattle.std.proofs.lemmas.List.{length-map, get_or-map}
+use Rattle.std.proofs.lemmas.List.{length-map}
 use Rattle.std.proofs.lemmas.List.FromFn.{length-map-range_with_len}
 use Rattle.std.proofs.lemmas.List.Elements.{All-head, All-tail}
 use Rattle.std.proofs.lemmas.Int.{ints}
 use Rattle.iso_model.specs.declared.Kind.{Kind}
 use Rattle.iso_model.specs.Orders.{numbers, same_list}
-use Rattle.iso_model.specs.Points.{axes, point, plus}
-use Rattle.iso_model.specs.Turns.{turn, signed, minus, difference}
+use Rattle.iso_model.specs.Points.{point, plus}
+use Rattle.iso_model.specs.Turns.{turn, signed, difference}
 use Rattle.iso_model.specs.Cells.{corner_count, corner_point, midpoint_between}
-use Rattle.iso_model.specs.Splits.{cells_per_cube, corner_offset, is_odd_rank}
+use Rattle.iso_model.specs.Splits.{corner_offset, is_odd_rank}
 use Rattle.iso_model.specs.SplitLaws.{corner_sum, AreCorners, KeepsTurns}
-use Rattle.split_checks.specs.ColumnTests.{columns, reversed, placed, keeps_corner, are_axes, turns_well, is_placed, is_placed_rank}
+use Rattle.split_checks.specs.ColumnTests.{columns, reversed, placed, keeps_corner, are_axes, turns_well, is_placed_rank}
 use Rattle.split_laws.proofs.Members.{and_left, and_right, all_below, at_numbers}
 use Rattle.split_laws.proofs.Coordinates.{coordinate, length-point}
 use Rattle.split_laws.proofs.Offsets.{lists_equal, all_small}

@@ -1,4 +1,4 @@
-use Rattle.std.proofs.Common.{◌≡◌, ℕ, ◌+◌, ◌<◌, ◌≤◌, Bool, length, rules, arith, sym, ◌∙◌, ap, subst, List}
+use Rattle.std.proofs.Common.{◌≡◌, ℕ, Bool, length, rules, arith, sym, ◌∙◌, ap, List}
 use Rattle.std.specs.Prelude.{take, slice_index, ◌==◌, nat_lt, if◌then◌else◌}
 use Rattle.iso_model.specs.Points.{comes_first}
 use Rattle.grid_split.proofs.Before.{before_more, take_all}

@@ -1,12 +1,11 @@
-use Rattle.std.proofs.Common.{◌≡◌, ℕ, ◌+◌, ◌-◌, ◌*◌, ◌%◌, ◌<◌, [], length, pos, ℤ, List, slice_index_or, nat_lt, if◌then◌else◌, refl, rules, arith, ap, sym, ◌∙◌, subst, inl, inr}
+use Rattle.std.proofs.Common.{◌≡◌, ℕ, ◌+◌, ◌-◌, ◌*◌, ◌%◌, pos, rules, arith, ◌∙◌, subst}
 use Rattle.std.proofs.lemmas.List.FromFn.{fill_by_all}
-use Rattle.std.specs.Int.{bit_at}
-use Rattle.iso_model.specs.declared.Kind.TheVariants.{Cube, Simplex, Pyramid}
+use Rattle.iso_model.specs.declared.Kind.TheVariants.{Cube}
 use Rattle.iso_model.specs.Cells.{HasDimension}
 use Rattle.iso_model.specs.Neighbours.{IsAcross}
 use Rattle.cell_lattice.specs.Dimensions.{IsDimension}
 use Rattle.split_laws.proofs.Across.{next_of}
-use Rattle.split_laws.proofs.SplitTheorems.{small_offsets, found_across}
+use Rattle.split_laws.proofs.SplitTheorems.{found_across}
 use Rattle.grid_split.specs.Shifts.{shift_along_axis}
 use Rattle.grid_split.proofs.Tables.{cube_shift, cube_next}
 use Rattle.grid_split.proofs.cubes.cube_across.Goals as goal

@@ -1,6 +1,5 @@
-use Rattle.std.proofs.Common.{◌≡◌, ℕ, ◌+◌, ◌*◌, ◌<◌, [], length, pos, slice_index_or, nat_lt, if◌then◌else◌}
+use Rattle.std.proofs.Common.{◌≡◌, ℕ, ◌*◌, ◌<◌, length, slice_index_or}
 use Rattle.std.specs.Int.{bit_at}
-use Rattle.grid_split.specs.Shifts.{shift_along_axis, shift_at_place}
 use Rattle.grid_split.proofs.cubes.cube_offset.Given as goal
 
 abbrev pub invariant-loop-axis : goal.invariant-loop-axis

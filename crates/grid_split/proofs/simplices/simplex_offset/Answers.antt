@@ -1,12 +1,9 @@
-use Rattle.std.proofs.Common.{◌≡◌, ℕ, ◌+◌, ◌-◌, ◌*◌, ◌%◌, ◌<◌, [], length, pos, ℤ, List, slice_index_or, nat_lt, if◌then◌else◌, refl, rules, arith, ap, sym, ◌∙◌, subst, inl, inr}
+use Rattle.std.proofs.Common.{ℕ, [], slice_index_or, nat_lt, if◌then◌else◌, rules, arith, ap, ◌∙◌}
 use Rattle.std.proofs.lemmas.List.FromFn.{fill_by_all}
-use Rattle.std.specs.Int.{bit_at}
-use Rattle.iso_model.specs.declared.Kind.TheVariants.{Cube, Simplex, Pyramid}
+use Rattle.iso_model.specs.declared.Kind.TheVariants.{Simplex}
 use Rattle.iso_model.specs.Cells.{HasDimension}
-use Rattle.iso_model.specs.Neighbours.{IsAcross}
 use Rattle.cell_lattice.specs.Dimensions.{IsDimension}
-use Rattle.split_laws.proofs.Across.{next_of}
-use Rattle.split_laws.proofs.SplitTheorems.{small_offsets, found_across}
+use Rattle.split_laws.proofs.SplitTheorems.{small_offsets}
 use Rattle.std.specs.Prelude.{map}
 use Rattle.iso_model.specs.Points.{axes}
 use Rattle.grid_split.specs.declared.simplices.TheConstants.{PLACES}

@@ -1,4 +1,4 @@
-use Rattle.std.proofs.Common.{◌≡◌, ℕ, ◌≤◌, List, arith, subst, sym}
+use Rattle.std.proofs.Common.{ℕ, ◌≤◌, subst}
 use Rattle.iso_model.specs.Splits.{cells_per_cube}
 use Rattle.grid_split.proofs.CubeNumbers.{few_cells}
 use Rattle.grid_split.proofs.complex.Complex.cells.Goals as goal

@@ -1,4 +1,4 @@
-use Rattle.std.proofs.Common.{◌≡◌, ℕ, arith, sym, ◌∙◌}
+use Rattle.std.proofs.Common.{◌∙◌}
 use Rattle.grid_split.proofs.CubeNumbers.{corner_is}
 use Rattle.grid_split.proofs.complex.Complex.corner.Goals as goal
 

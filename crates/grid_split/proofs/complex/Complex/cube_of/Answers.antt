@@ -1,6 +1,6 @@
-use Rattle.std.proofs.Common.{◌≡◌, ℕ, ◌+◌, ◌-◌, ◌/◌, ◌%◌, ◌^◌, ◌<◌, ◌≤◌, List, length, slice_index_or, arith, rules, refl, sym, ◌∙◌, ap, subst}
-use Rattle.std.specs.Prelude.{drop, slice_index}
-use Rattle.iso_model.specs.Splits.{cells_per_cube, cell_count, cube_count, cube_at, cube_of}
+use Rattle.std.proofs.Common.{◌≡◌, ℕ, ◌+◌, ◌/◌, ◌%◌, ◌<◌, List, slice_index_or, arith, rules, refl, sym, ◌∙◌, subst}
+use Rattle.std.specs.Prelude.{slice_index}
+use Rattle.iso_model.specs.Splits.{cells_per_cube, cube_at}
 use Rattle.split_laws.proofs.Coordinates.{lists_same, length-cube_at, cube_below}
 use Rattle.grid_split.specs.Strides.{IsComplex}
 use Rattle.grid_split.proofs.CubeNumbers.{next_axis, few_in_all, few_cubes, put_length, put_next, cube_number_in, cube_of_is}

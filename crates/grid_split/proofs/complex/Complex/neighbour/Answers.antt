@@ -1,8 +1,8 @@
-use Rattle.std.proofs.Common.{◌≡◌, ℕ, ◌+◌, ◌*◌, ◌<◌, List, length, ℤ, pos, Option, Some, None, refl, sym, ◌∙◌, ap, subst, arith, rules, Bool, true, false}
+use Rattle.std.proofs.Common.{◌≡◌, ℕ, ◌+◌, ◌*◌, ◌<◌, List, ℤ, pos, Some, refl, sym, ◌∙◌, ap, subst, rules}
 use Rattle.std.specs.Prelude.{◌↔◌, slice_index_or}
 use Rattle.iso_model.specs.Cells.{facet_count}
-use Rattle.iso_model.specs.Splits.{cells_per_cube, cell_count}
-use Rattle.iso_model.specs.Neighbours.{IsNeighbour, OnOuterBoundary, facet_points, IsAcross}
+use Rattle.iso_model.specs.Splits.{cells_per_cube}
+use Rattle.iso_model.specs.Neighbours.{IsNeighbour}
 use Rattle.grid_split.specs.Steps.{IsStep, LeavesCubes, IsShiftedCube}
 use Rattle.grid_split.proofs.NeighbourFound.{steps_across, some_neighbour, some_inside, none_outside, none_neighbour}
 use Rattle.grid_split.proofs.complex.Complex.neighbour.Goals as goal

@@ -1,4 +1,4 @@
-use Rattle.std.proofs.Common.{◌≡◌, ℕ, ◌+◌, ◌-◌, ◌*◌, ◌^◌, ◌<◌, ◌≤◌, length, slice_index_or, rules, arith, sym, ◌∙◌}
+use Rattle.std.proofs.Common.{◌≡◌, ◌+◌, ◌-◌, ◌*◌, length, slice_index_or, rules, arith, sym}
 use Rattle.std.specs.Prelude.{take}
 use Rattle.iso_model.specs.Splits.{cube_count}
 use Rattle.grid_split.proofs.CubeNumbers.{cube_count_more, few_cubes, few_before, put_length, put_next}

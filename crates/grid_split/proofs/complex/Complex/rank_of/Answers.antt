@@ -1,5 +1,5 @@
-use Rattle.std.proofs.Common.{◌≡◌, ℕ, ◌%◌, ◌<◌, ◌≤◌, List, length, arith, sym, ◌∙◌, ap, subst}
-use Rattle.iso_model.specs.Splits.{cells_per_cube, rank_of}
+use Rattle.std.proofs.Common.{ℕ, ◌%◌, List, arith, ◌∙◌, ap}
+use Rattle.iso_model.specs.Splits.{rank_of}
 use Rattle.grid_split.proofs.CubeNumbers.{rank_of_is}
 use Rattle.grid_split.proofs.complex.Complex.rank_of.Goals as goal
 

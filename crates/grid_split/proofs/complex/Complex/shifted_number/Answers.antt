@@ -1,9 +1,8 @@
-use Rattle.std.proofs.Common.{◌≡◌, ℕ, ◌+◌, ◌-◌, ◌*◌, ◌^◌, ◌<◌, ◌≤◌, List, length, pos, ◌+ℤ◌, ℤ, slice_index_or, arith, rules, refl, sym, ◌∙◌, ap, subst, inl, inr, w8, FitsSigned, to_z, of_z, below_more}
-use Rattle.std.specs.Prelude.{negsuc, slice_index}
+use Rattle.std.proofs.Common.{◌≡◌, ℕ, ◌+◌, ◌<◌, List, length, pos, ◌+ℤ◌, ℤ, slice_index_or, arith, refl, sym, ◌∙◌, ap, subst, inl, inr, w8, FitsSigned, to_z, of_z, below_more}
+use Rattle.std.specs.Prelude.{slice_index}
 use Rattle.std.proofs.lemmas.Int.{ints, to_z-of_z}
-use Rattle.iso_model.specs.Splits.{cube_count, cube_at}
 use Rattle.grid_split.specs.Strides.{IsComplex}
-use Rattle.grid_split.specs.Steps.{IsStep, stepped, LeavesAxis, LeavesCubes, IsShiftedCube}
+use Rattle.grid_split.specs.Steps.{IsStep, stepped}
 use Rattle.grid_split.proofs.PlaceSums.{number_before, number_of, NumberOf, next_part}
 use Rattle.grid_split.proofs.complex.Complex.shifted_number.Goals as goal
 
