@@ -1,0 +1,5 @@
+mod Tables
+pub mod CubeNumbers
+pub mod Before
+pub mod PlaceSums
+pub mod NeighbourFound

@@ -1,0 +1,4 @@
+pub mod SharesFound
+pub mod AcrossFound
+pub mod CornersFound
+pub mod ColumnsFound

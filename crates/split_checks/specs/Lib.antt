@@ -1,0 +1,5 @@
+pub mod Moves
+pub mod ShareTests
+pub mod AcrossTests
+pub mod CornerTests
+pub mod ColumnTests

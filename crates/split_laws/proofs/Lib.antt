@@ -1,0 +1,13 @@
+pub mod Members
+pub mod Coordinates
+pub mod Offsets
+pub mod Placement
+pub mod Sharing
+pub mod Across
+pub mod AcrossLaws
+pub mod NeighbourLaws
+pub mod Midpoints
+pub mod Turning
+pub mod Turns
+pub mod Passed
+pub mod SplitTheorems
