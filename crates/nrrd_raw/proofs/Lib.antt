@@ -1,2 +1,13 @@
+pub mod ContentLaws
 pub mod Counts
+pub mod JudgeLaws
+pub mod LineLaws
+pub mod NumeralLaws
+pub mod PlaceLaws
+pub mod ReadLaws
+pub mod SampleLaws
+pub mod SizeLaws
+pub mod StatedLaws
 pub mod TakenLaws
+pub mod WholeLaws
+pub mod WordLaws

@@ -2,7 +2,7 @@
 use Rattle.std.specs.Prelude.{◌≡◌, ℕ, Bool, true, false, ⊤}
 use Rattle.iso_base.specs.Faults.{Rose}
 use Rattle.nrrd_raw.specs.declared.faults.GridFault.{GridFault}
-use Rattle.nrrd_raw.specs.declared.faults.GridFault.TheVariants.{TooLarge, DataShort, Trailing, Shelf, Memory}
+use Rattle.nrrd_raw.specs.declared.faults.GridFault.TheVariants.{Magic, HeaderLong, HeaderEnd, Line, Repeated, SampleType, Dimension, Sizes, Encoding, Endian, Skip, Detached, Missing, TooLarge, DataShort, Trailing, Shelf, Memory}
 
 -- a fault of the shelf comes only where its count rose, and holds the count after the call
 abbrev pub BlamesShelf : ℕ → ℕ → GridFault → Type 0
@@ -38,3 +38,10 @@ is_data_fault Trailing = true
 is_data_fault (Shelf count) = true
 is_data_fault Memory = true
 is_data_fault fault = false
+
+-- the samples' bytes are too few, or the shelf is blamed, or memory was refused
+abbrev pub is_piece_fault : GridFault → Bool
+is_piece_fault (DataShort count) = true
+is_piece_fault (Shelf count) = true
+is_piece_fault Memory = true
+is_piece_fault fault = false

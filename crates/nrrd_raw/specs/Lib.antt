@@ -1,3 +1,9 @@
-pub mod Shapes
+pub mod Causes
+pub mod Contents
+pub mod Ends
 pub mod Faults
+pub mod Forms
+pub mod Names
+pub mod Shapes
+pub mod States
 pub mod Taken

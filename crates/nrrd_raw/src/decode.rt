@@ -1,8 +1,10 @@
 //! Samples from bytes.
 
-ghost use Rattle.std.specs.Prelude.{◌≡◌, ℕ, ◌*◌, ◌≤◌, length, All};
-ghost use Rattle.iso_model.specs.GridFile.{IsRegularHeader};
+ghost use Rattle.std.specs.Prelude.{◌≡◌, ℕ, ◌*◌, ◌≤◌, ℤ, pos, List, length, All, slice_index};
+ghost use Rattle.std.specs.Int.{w8, w16, w32, cast_signed};
+ghost use Rattle.iso_model.specs.GridFile.{IsRegularHeader, samples_of};
 ghost use Rattle.nrrd_raw.specs.Shapes.{InRange};
+ghost use Rattle.nrrd_raw.specs.Forms.{HasValues};
 
 use crate::headers::Header;
 use byteorder::{BigEndian, ByteOrder, LittleEndian};
@@ -12,12 +14,16 @@ use std::marker::PhantomData;
 trait Form {
     ghost WIDTH: { ℕ };
 
+    // The number that the bytes at the front of a list spell.
+    ghost value: { List ℕ → ℤ };
+
     /// The bytes of a sample.
     const WIDTH: usize;
 
     /// The sample that the bytes at the front of `group` spell.
     fn sample(group: &[u8]) -> i64
         requires { WIDTH ≤ length group.now }
+        ensures value { result ≡ value group.now }
         ensures range { InRange result };
 }
 
@@ -36,6 +42,8 @@ struct Unsigned32<B: ByteOrder>(PhantomData<B>);
 impl Form for Signed8 {
     ghost WIDTH = { 1 };
 
+    ghost value = { λ group. cast_signed w8 (slice_index group 0) };
+
     const WIDTH: usize = 1;
 
     fn sample(group: &[u8]) -> i64 {
@@ -45,6 +53,8 @@ impl Form for Signed8 {
 
 impl Form for Unsigned8 {
     ghost WIDTH = { 1 };
+
+    ghost value = { λ group. pos (slice_index group 0) };
 
     const WIDTH: usize = 1;
 
@@ -56,6 +66,8 @@ impl Form for Unsigned8 {
 impl<B: ByteOrder> Form for Signed16<B> {
     ghost WIDTH = { 2 };
 
+    ghost value = { λ group. cast_signed w16 (B.number_of 2 group) };
+
     const WIDTH: usize = 2;
 
     fn sample(group: &[u8]) -> i64 {
@@ -65,6 +77,8 @@ impl<B: ByteOrder> Form for Signed16<B> {
 
 impl<B: ByteOrder> Form for Unsigned16<B> {
     ghost WIDTH = { 2 };
+
+    ghost value = { λ group. pos (B.number_of 2 group) };
 
     const WIDTH: usize = 2;
 
@@ -76,6 +90,8 @@ impl<B: ByteOrder> Form for Unsigned16<B> {
 impl<B: ByteOrder> Form for Signed32<B> {
     ghost WIDTH = { 4 };
 
+    ghost value = { λ group. cast_signed w32 (B.number_of 4 group) };
+
     const WIDTH: usize = 4;
 
     fn sample(group: &[u8]) -> i64 {
@@ -85,6 +101,8 @@ impl<B: ByteOrder> Form for Signed32<B> {
 
 impl<B: ByteOrder> Form for Unsigned32<B> {
     ghost WIDTH = { 4 };
+
+    ghost value = { λ group. pos (B.number_of 4 group) };
 
     const WIDTH: usize = 4;
 
@@ -97,6 +115,7 @@ impl<B: ByteOrder> Form for Unsigned32<B> {
 pub(crate) fn write_samples(header: &Header, piece: &[u8], samples: &mut [i64])
     requires regular { IsRegularHeader header.now }
     requires whole { length piece.now ≡ length samples.old * header.now.width }
+    ensures values { samples.new ≡ samples_of header.now (length samples.old) piece.now }
     ensures range { All InRange samples.new }
 {
     match (header.width, header.signed) {
@@ -115,6 +134,7 @@ pub(crate) fn write_samples(header: &Header, piece: &[u8], samples: &mut [i64])
 
 fn write_as<F: Form>(piece: &[u8], samples: &mut [i64])
     requires { length piece.now ≡ length samples.old * F.WIDTH }
+    ensures values { HasValues F.value F.WIDTH piece.now samples.new (length samples.new) }
     ensures range { All InRange samples.new }
 {
     for i in 0..samples.len() {

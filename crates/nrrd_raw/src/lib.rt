@@ -12,6 +12,7 @@ mod faults;
 mod fronts;
 mod grids;
 mod headers;
+mod judge;
 mod lines;
 mod numerals;
 mod pieces;
@@ -19,6 +20,7 @@ mod reading;
 mod stated;
 #[cfg(test)]
 mod tests;
+mod values;
 mod words;
 
 pub use faults::GridFault;

@@ -1,14 +1,18 @@
 //! Numbers in a header: one or more digits, with leading zeros as may be.
 
-ghost use Rattle.std.specs.Prelude.{ℕ, ◌+◌, ◌*◌, ◌≤◌, ◌<◌, ◌^◌, length, IfSome};
-ghost use Rattle.nrrd_raw.specs.Shapes.{HasShape, AreSizes};
+ghost use Rattle.std.specs.Prelude.{◌≡◌, ℕ, ◌+◌, ◌*◌, ◌≤◌, ◌<◌, ◌^◌, length, slice_index, true, false, Some, None, IfSome, if◌then◌else◌};
+ghost use Rattle.std.specs.Option.{option_map};
+ghost use Rattle.iso_model.specs.HeaderLines as lines;
+ghost use Rattle.nrrd_raw.specs.Names.{sizes_view};
 
 use crate::content::is_blank;
+use crate::values::Sizes;
 
 /// The number that the text writes, where it is a number from `low` to `high`.
 pub(crate) fn numeral_within(text: &[u8], low: u64, high: u64) -> Option<u64>
     requires { high < 2 ^ 32 }
     ensures within { IfSome result (λ n. (low ≤ n) × (n ≤ high)) }
+    ensures value { result ≡ (if lines.is_numeral_within low high text.now then Some (lines.numeral_value text.now) else None) }
 {
     if text.is_empty() {
         return None;
@@ -29,30 +33,25 @@ pub(crate) fn numeral_within(text: &[u8], low: u64, high: u64) -> Option<u64>
 }
 
 /// A number with value 0.
-pub(crate) fn is_zero(value: &[u8]) -> bool {
+pub(crate) fn is_zero(value: &[u8]) -> bool
+    ensures { result ≡ lines.is_zero value.now }
+{
     numeral_within(value, 0, 0).is_some()
 }
 
 /// A dimension that is read.
 pub(crate) fn dimension_of(value: &[u8]) -> Option<u8>
     ensures within { IfSome result (λ n. (2 ≤ n) × (n ≤ 4)) }
+    ensures value { result ≡ lines.dimension_of value.now }
 {
     let n = numeral_within(value, 2, 4)?;
     Some(n as u8)
 }
 
-/// One to four sizes, and 1 in each place beyond them.
-#[derive(Clone, Copy, Drop)]
-pub(crate) struct Sizes {
-    pub count: u8,
-    pub places: [u64; 4],
-    ghost shape: { HasShape count places },
-    ghost some: { 1 ≤ count },
-    ghost sized: { AreSizes places },
-}
-
 /// One to four numbers, separated by blanks, each from 1 to 4,294,967,295.
-pub(crate) fn sizes_of(value: &[u8]) -> Option<Sizes> {
+pub(crate) fn sizes_of(value: &[u8]) -> Option<Sizes>
+    ensures { option_map sizes_view result ≡ lines.sizes_of value.now }
+{
     let mut count = 0u8;
     let mut places = [1u64; 4];
     let mut at = word_from(value, 0);
@@ -78,6 +77,8 @@ fn word_from(value: &[u8], from: usize) -> usize
     requires { from ≤ length value.now }
     ensures later { from ≤ result }
     ensures within { result ≤ length value.now }
+    ensures blank { (k : ℕ) → from ≤ k → k < result → lines.is_blank (slice_index value.now k) ≡ true }
+    ensures word { result < length value.now → lines.is_blank (slice_index value.now result) ≡ false }
 {
     for at in from..value.len() {
         if !is_blank(value[at]) {
@@ -92,6 +93,8 @@ fn word_end(value: &[u8], from: usize) -> usize
     requires { from < length value.now }
     ensures later { from < result }
     ensures within { result ≤ length value.now }
+    ensures word { (k : ℕ) → from < k → k < result → lines.is_blank (slice_index value.now k) ≡ false }
+    ensures blank { result < length value.now → lines.is_blank (slice_index value.now result) ≡ true }
 {
     for at in from + 1..value.len() {
         if is_blank(value[at]) {

@@ -1,9 +1,12 @@
 //! Reading a grid file from a shelf.
 
-ghost use Rattle.std.specs.Prelude.{◌≡◌, ℕ, ◌+◌, ◌*◌, ◌≤◌, ◌<◌, ◌^◌, Result, Ok, Err, OnErr, IfOk, IfErr, OnOk, IsTrue, IsFalse, None, Some, All, length, vec_len};
+ghost use Rattle.std.specs.Prelude.{◌≡◌, ℕ, ◌++◌, IfSome, ◌+◌, ◌*◌, ◌≤◌, ◌<◌, ◌^◌, Result, Ok, Err, OnErr, IfOk, IfErr, OnOk, IsTrue, IsFalse, None, Some, All, length, vec_len};
 ghost use Rattle.iso_model.specs.Values.{IsRegularGrid, product};
-ghost use Rattle.iso_model.specs.GridFile.{IsRegularHeader, sample_limit};
-ghost use Rattle.nrrd_raw.specs.Faults.{BlamesShelf, is_shelf_fault, is_header_fault, is_sample_fault, is_data_fault};
+ghost use Rattle.iso_model.specs.GridFile.{IsRegularHeader, SpellsSamples, sample_limit, samples_of};
+ghost use Rattle.iso_model.specs.GridFaults.{HasSampleFault};
+ghost use Rattle.std.specs.Io.KnownBytes.{IsAtEnd};
+ghost use Rattle.nrrd_raw.specs.Causes.{ReadsSamples, ReadsMore, IsCutOff, IsDataFault, cause_of};
+ghost use Rattle.nrrd_raw.specs.Faults.{BlamesShelf, is_shelf_fault, is_header_fault, is_sample_fault, is_data_fault, is_piece_fault};
 ghost use Rattle.nrrd_raw.specs.Shapes.{InRange};
 ghost use Rattle.nrrd_raw.specs.Taken.{TakesAtMost};
 
@@ -12,8 +15,8 @@ use crate::faults::GridFault;
 use crate::fronts::take_front;
 use crate::grids::Grid;
 use crate::headers::Header;
-use crate::pieces::fill;
-use crate::stated::header_of;
+use crate::judge::header_of;
+use crate::pieces::{fill, take_byte};
 use arrayvec::ArrayVec;
 use iso_base::Shelf;
 use std::alloc::Global;
@@ -59,6 +62,9 @@ pub fn read_samples<S: Shelf>(
     ensures untouched { sample_limit < product header.now.sizes → shelf.new ≡ shelf.old }
     ensures taken { TakesAtMost (product header.now.sizes * header.now.width + 1) (S.rest shelf.old) (S.rest shelf.new) }
     ensures sizes { IfOk result (λ grid. grid.sizes ≡ header.now.sizes) }
+    ensures spelled { IfSome (S.rest shelf.old) (λ bytes. IfOk result (SpellsSamples header.now bytes)) }
+    ensures cause { IfSome (S.rest shelf.old) (λ bytes. IfErr result (λ fault. IfSome (cause_of fault) (HasSampleFault header.now bytes))) }
+    ensures whole { OnOk result (IsAtEnd (S.rest shelf.new)) }
     ensures regular { IfOk result IsRegularGrid }
 {
     let count = sample_count(header);
@@ -107,23 +113,54 @@ fn take_samples<S: Shelf>(
     ensures taken { TakesAtMost (count * header.now.width + 1) (S.rest shelf.old) (S.rest shelf.new) }
     ensures count { IfOk result (λ samples. vec_len samples ≡ count) }
     ensures range { IfOk result (λ samples. All InRange samples.items) }
+    ensures read { IfOk result (λ samples. ReadsSamples header.now (S.rest shelf.old) (S.rest shelf.new) count samples.items) }
+    ensures ended { OnOk result (IsAtEnd (S.rest shelf.new)) }
+    ensures cause { IfErr result (IsDataFault (count * header.now.width) (S.rest shelf.old) (S.rest shelf.new)) }
 {
     let width = usize::from(header.width);
     let mut piece = [0u8; PIECE];
     let mut samples = Vec::new(alloc);
-    while samples.len() < count {
+    'pieces: while samples.len() < count {
         let more = (PIECE / width).min(count - samples.len());
-        let wanted = more * width;
-        let came = fill(shelf, &mut piece[..wanted])?;
-        if came < wanted {
-            return Err(GridFault::DataShort((samples.len() * width + came) as u64));
-        }
-        append(&mut samples, header, &piece[..wanted], more, count)?;
+        take_piece(shelf, header, &mut piece[..more * width], &mut samples, more, count)?;
     }
-    if fill(shelf, &mut piece[..1])? > 0 {
-        return Err(GridFault::Trailing);
+    match take_byte(shelf)? {
+        Some(_) => Err(GridFault::Trailing),
+        None => Ok(samples),
     }
-    Ok(samples)
+}
+
+/// Fills `piece` with the bytes of `more` samples, and appends them. There are to be `count` in the end.
+fn take_piece<S: Shelf>(
+    shelf: &mut S,
+    header: &Header,
+    piece: &mut [u8],
+    samples: &mut Vec<i64>,
+    more: usize,
+    count: usize,
+) -> Result<(), GridFault>
+    requires regular { IsRegularHeader header.now }
+    requires whole { length piece.old ≡ more * header.now.width }
+    requires room { vec_len samples.old + more ≤ count }
+    requires few { count ≤ 2 ^ 27 }
+    ensures faults { S.faults shelf.old ≤ S.faults shelf.new }
+    ensures stay { S.files shelf.new ≡ S.files shelf.old }
+    ensures sound_stays { S.sound shelf.old → S.sound shelf.new }
+    ensures blames { IfErr result (BlamesShelf (S.faults shelf.old) (S.faults shelf.new)) }
+    ensures sound { S.sound shelf.old → IfErr result (λ fault. IsFalse (is_shelf_fault fault)) }
+    ensures causes { IfErr result (λ fault. IsTrue (is_piece_fault fault)) }
+    ensures taken { TakesAtMost (length piece.new) (S.rest shelf.old) (S.rest shelf.new) }
+    ensures len { OnOk result (vec_len samples.new ≡ vec_len samples.old + more) }
+    ensures range { All InRange samples.old.items → OnOk result (All InRange samples.new.items) }
+    ensures read { OnOk result (ReadsMore header.now (S.rest shelf.old) (S.rest shelf.new) more samples.old.items samples.new.items) }
+    ensures cut { IfErr result (IsCutOff header.now (S.rest shelf.old) (S.rest shelf.new) (vec_len samples.old) more) }
+{
+    let width = usize::from(header.width);
+    let came = fill(shelf, piece)?;
+    if came < piece.len() {
+        return Err(GridFault::DataShort((samples.len() * width + came) as u64));
+    }
+    append(samples, header, piece, more, count)
 }
 
 /// Appends the samples of a piece, so many. There are to be `count` in the end.
@@ -140,6 +177,7 @@ fn append(
     ensures memory { IfErr result (λ fault. fault ≡ GridFault.Memory) }
     ensures len { OnOk result (vec_len samples.new ≡ vec_len samples.old + more) }
     ensures range { All InRange samples.old.items → OnOk result (All InRange samples.new.items) }
+    ensures items { OnOk result (samples.new.items ≡ samples.old.items ++ samples_of header.now more piece.now) }
 {
     let start = samples.len();
     make_room(samples, more, count)?;

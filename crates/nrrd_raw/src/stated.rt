@@ -1,46 +1,19 @@
 //! What the lines of a header state.
 
-ghost use Rattle.std.specs.Prelude.{◌≤◌, length, IfErr, IfOk, IsTrue, IsFalse};
+ghost use Rattle.std.specs.Prelude.{◌≡◌, ◌≤◌, ◌&&◌, not, false, nat_lt, is_some, unwrap_or};
 ghost use Rattle.std.specs.Option.{ForSome};
-ghost use Rattle.iso_model.specs.GridFile.{IsRegularHeader};
-ghost use Rattle.nrrd_raw.specs.Faults.{is_header_fault, is_shelf_fault};
 
 use crate::content::{Content, content_of};
 use crate::faults::GridFault;
 use crate::headers::Header;
-use crate::lines::line_at;
-use crate::numerals::{Sizes, dimension_of, is_zero, sizes_of};
-use crate::words::{Key, Sample, big_endian_of, is_raw, key_of, sample_of};
+use crate::numerals::{dimension_of, is_zero, sizes_of};
+use crate::values::{Sample, Sizes};
+use crate::words::{Key, big_endian_of, is_raw, key_of, sample_of};
 use iso_model::Field;
-
-/// The header that the bytes spell, or the first cause that one of its lines or its fields has. The bytes begin with a
-/// right first line, and end with an empty one.
-pub(crate) fn header_of(bytes: &[u8]) -> Result<Header, GridFault>
-    requires { length bytes.now ≤ 65536 }
-    ensures causes { IfErr result (λ fault. IsTrue (is_header_fault fault)) }
-    ensures form { IfErr result (λ fault. IsFalse (is_shelf_fault fault)) }
-    ensures regular { IfOk result IsRegularHeader }
-{
-    let mut stated = Stated::none();
-    let mut number = 1u32;
-    let mut at = 0;
-    while at < bytes.len() {
-        let (text, next) = line_at(bytes, at);
-        if number > 1 {
-            if text.is_empty() {
-                break;
-            }
-            stated = stated.with_line(number, text)?;
-        }
-        number += 1;
-        at = next;
-    }
-    stated.header()
-}
 
 /// The values of the fields so far, and the number of the line of the sizes.
 #[derive(Clone, Copy, Drop)]
-struct Stated {
+pub(crate) struct Stated {
     sample: Option<Sample>,
     dimension: Option<u8>,
     sizes: Option<(Sizes, u32)>,
@@ -50,7 +23,20 @@ struct Stated {
 }
 
 impl Stated {
-    fn none() -> Stated {
+    ghost use Rattle.std.specs.Prelude.{◌≡◌, ℕ, ◌+◌, ◌≤◌, false, List, [], length, drop, slice_index_or, is_some, IfErr, IfOk, IsTrue, IsFalse, None};
+    ghost use Rattle.std.specs.List.{AllPass};
+    ghost use Rattle.std.specs.Str.{str_to_ascii_lowercase};
+    ghost use Rattle.iso_model.specs.declared.Field.TheVariants as field;
+    ghost use Rattle.iso_model.specs.HeaderLines as lines;
+    ghost use Rattle.iso_model.specs.GridFile.{IsRegularHeader, SpellHeader, is_sound_line};
+    ghost use Rattle.nrrd_raw.specs.Faults.{is_header_fault, is_shelf_fault};
+    ghost use Rattle.nrrd_raw.specs.Causes.{cause_of};
+    ghost use Rattle.nrrd_raw.specs.States.{States, AddsLine, HasCause, has_field, whole_fault};
+
+    /// Behind the first line nothing is stated.
+    pub(crate) fn none() -> Stated
+        ensures { (texts : List (List ℕ)) → length texts ≡ 1 → States result texts }
+    {
         Stated {
             sample: None,
             dimension: None,
@@ -60,9 +46,12 @@ impl Stated {
         }
     }
 
-    fn with_line(self, number: u32, text: &[u8]) -> Result<Stated, GridFault>
+    /// With a line more, or its cause.
+    pub(crate) fn with_line(self, number: u32, text: &[u8]) -> Result<Stated, GridFault>
         ensures causes { IfErr result (λ fault. IsTrue (is_header_fault fault)) }
         ensures form { IfErr result (λ fault. IsFalse (is_shelf_fault fault)) }
+        ensures kept { IfOk result (λ next. AddsLine self next number (lines.content text.now)) }
+        ensures cause { IfErr result (HasCause self number (lines.content text.now)) }
     {
         match content_of(text) {
             Content::PassedOver => Ok(self),
@@ -74,6 +63,8 @@ impl Stated {
     fn with_field(self, number: u32, name: &[u8], value: &[u8]) -> Result<Stated, GridFault>
         ensures causes { IfErr result (λ fault. IsTrue (is_header_fault fault)) }
         ensures form { IfErr result (λ fault. IsFalse (is_shelf_fault fault)) }
+        ensures kept { IfOk result (λ next. AddsLine self next number (lines.named_field (str_to_ascii_lowercase name.now) value.now)) }
+        ensures cause { IfErr result (HasCause self number (lines.named_field (str_to_ascii_lowercase name.now) value.now)) }
     {
         match key_of(name) {
             Key::Skip => {
@@ -95,7 +86,9 @@ impl Stated {
     }
 
     /// The field stood on an earlier line.
-    fn has(&self, field: Field) -> bool {
+    fn has(&self, field: Field) -> bool
+        ensures { result ≡ has_field self.now field }
+    {
         match field {
             Field::SampleType => self.sample.is_some(),
             Field::Dimension => self.dimension.is_some(),
@@ -106,51 +99,126 @@ impl Stated {
     }
 
     fn with_value(self, number: u32, field: Field, value: &[u8]) -> Result<Stated, GridFault>
+        requires { has_field self field ≡ false }
         ensures causes { IfErr result (λ fault. IsTrue (is_header_fault fault)) }
         ensures form { IfErr result (λ fault. IsFalse (is_shelf_fault fault)) }
+        ensures kept { IfOk result (λ next. AddsLine self next number (lines.named_field (lines.field_name field) value.now)) }
+        ensures cause { IfErr result (HasCause self number (lines.named_field (lines.field_name field) value.now)) }
     {
-        let mut stated = self;
         match field {
-            Field::SampleType => {
-                let Some(sample) = sample_of(value) else {
-                    return Err(GridFault::SampleType(number));
-                };
-                stated.sample = Some(sample);
-            }
-            Field::Dimension => {
-                let Some(dimension) = dimension_of(value) else {
-                    return Err(GridFault::Dimension(number));
-                };
-                stated.dimension = Some(dimension);
-            }
-            Field::Sizes => {
-                let Some(sizes) = sizes_of(value) else {
-                    return Err(GridFault::Sizes(number));
-                };
-                stated.sizes = Some((sizes, number));
-            }
-            Field::Encoding => {
-                if !is_raw(value) {
-                    return Err(GridFault::Encoding(number));
-                }
-                stated.raw = true;
-            }
-            Field::Endian => {
-                let Some(big) = big_endian_of(value) else {
-                    return Err(GridFault::Endian(number));
-                };
-                stated.big = Some(big);
-            }
+            Field::SampleType => self.with_sample_type(number, value),
+            Field::Dimension => self.with_dimension(number, value),
+            Field::Sizes => self.with_sizes(number, value),
+            Field::Encoding => self.with_encoding(number, value),
+            Field::Endian => self.with_endian(number, value),
         }
-        Ok(stated)
+    }
+
+    fn with_sample_type(self, number: u32, value: &[u8]) -> Result<Stated, GridFault>
+        requires { is_some self.sample ≡ false }
+        ensures causes { IfErr result (λ fault. IsTrue (is_header_fault fault)) }
+        ensures form { IfErr result (λ fault. IsFalse (is_shelf_fault fault)) }
+        ensures kept { IfOk result (λ next. AddsLine self next number (lines.named_field (lines.field_name field.SampleType) value.now)) }
+        ensures cause { IfErr result (HasCause self number (lines.named_field (lines.field_name field.SampleType) value.now)) }
+    {
+        let Some(sample) = sample_of(value) else {
+            return Err(GridFault::SampleType(number));
+        };
+        Ok(Stated {
+            sample: Some(sample),
+            dimension: self.dimension,
+            sizes: self.sizes,
+            raw: self.raw,
+            big: self.big,
+        })
+    }
+
+    fn with_dimension(self, number: u32, value: &[u8]) -> Result<Stated, GridFault>
+        requires { is_some self.dimension ≡ false }
+        ensures causes { IfErr result (λ fault. IsTrue (is_header_fault fault)) }
+        ensures form { IfErr result (λ fault. IsFalse (is_shelf_fault fault)) }
+        ensures kept { IfOk result (λ next. AddsLine self next number (lines.named_field (lines.field_name field.Dimension) value.now)) }
+        ensures cause { IfErr result (HasCause self number (lines.named_field (lines.field_name field.Dimension) value.now)) }
+    {
+        let Some(dimension) = dimension_of(value) else {
+            return Err(GridFault::Dimension(number));
+        };
+        Ok(Stated {
+            sample: self.sample,
+            dimension: Some(dimension),
+            sizes: self.sizes,
+            raw: self.raw,
+            big: self.big,
+        })
+    }
+
+    fn with_sizes(self, number: u32, value: &[u8]) -> Result<Stated, GridFault>
+        requires { is_some self.sizes ≡ false }
+        ensures causes { IfErr result (λ fault. IsTrue (is_header_fault fault)) }
+        ensures form { IfErr result (λ fault. IsFalse (is_shelf_fault fault)) }
+        ensures kept { IfOk result (λ next. AddsLine self next number (lines.named_field (lines.field_name field.Sizes) value.now)) }
+        ensures cause { IfErr result (HasCause self number (lines.named_field (lines.field_name field.Sizes) value.now)) }
+    {
+        let Some(sizes) = sizes_of(value) else {
+            return Err(GridFault::Sizes(number));
+        };
+        Ok(Stated {
+            sample: self.sample,
+            dimension: self.dimension,
+            sizes: Some((sizes, number)),
+            raw: self.raw,
+            big: self.big,
+        })
+    }
+
+    fn with_encoding(self, number: u32, value: &[u8]) -> Result<Stated, GridFault>
+        requires { self.raw ≡ false }
+        ensures causes { IfErr result (λ fault. IsTrue (is_header_fault fault)) }
+        ensures form { IfErr result (λ fault. IsFalse (is_shelf_fault fault)) }
+        ensures kept { IfOk result (λ next. AddsLine self next number (lines.named_field (lines.field_name field.Encoding) value.now)) }
+        ensures cause { IfErr result (HasCause self number (lines.named_field (lines.field_name field.Encoding) value.now)) }
+    {
+        if !is_raw(value) {
+            return Err(GridFault::Encoding(number));
+        }
+        Ok(Stated {
+            sample: self.sample,
+            dimension: self.dimension,
+            sizes: self.sizes,
+            raw: true,
+            big: self.big,
+        })
+    }
+
+    fn with_endian(self, number: u32, value: &[u8]) -> Result<Stated, GridFault>
+        requires { is_some self.big ≡ false }
+        ensures causes { IfErr result (λ fault. IsTrue (is_header_fault fault)) }
+        ensures form { IfErr result (λ fault. IsFalse (is_shelf_fault fault)) }
+        ensures kept { IfOk result (λ next. AddsLine self next number (lines.named_field (lines.field_name field.Endian) value.now)) }
+        ensures cause { IfErr result (HasCause self number (lines.named_field (lines.field_name field.Endian) value.now)) }
+    {
+        let Some(big) = big_endian_of(value) else {
+            return Err(GridFault::Endian(number));
+        };
+        Ok(Stated {
+            sample: self.sample,
+            dimension: self.dimension,
+            sizes: self.sizes,
+            raw: self.raw,
+            big: Some(big),
+        })
     }
 
     /// The header, or the first field that is missing, or the line of the sizes where they are not as many as the
     /// dimension.
-    fn header(self) -> Result<Header, GridFault>
+    pub(crate) fn header(self) -> Result<Header, GridFault>
         ensures causes { IfErr result (λ fault. IsTrue (is_header_fault fault)) }
         ensures form { IfErr result (λ fault. IsFalse (is_shelf_fault fault)) }
         ensures regular { IfOk result IsRegularHeader }
+        ensures whole { IfOk result (λ header. (texts : List (List ℕ)) → States self texts → whole_fault texts ≡ None) }
+        ensures spelled { IfOk result (λ header. (texts : List (List ℕ)) → States self texts → AllPass is_sound_line (drop 1 texts)
+            → IsTrue (lines.is_first_line (slice_index_or texts 0 [])) → SpellHeader texts header) }
+        ensures cause { IfErr result (λ fault. (texts : List (List ℕ)) → States self texts → cause_of fault ≡ whole_fault texts) }
     {
         let Some(sample) = self.sample else {
             return Err(GridFault::Missing(Field::SampleType));
@@ -164,18 +232,33 @@ impl Stated {
         if !self.raw {
             return Err(GridFault::Missing(Field::Encoding));
         }
-        if sample.width > 1 && self.big.is_none() {
+        if lacks_order(sample.width, self.big) {
             return Err(GridFault::Missing(Field::Endian));
         }
         if sizes.count != dims {
             return Err(GridFault::Sizes(line));
         }
+        let places = sizes.places;
         Ok(Header {
             dims,
-            sizes: sizes.places,
+            sizes: places,
             width: sample.width,
             signed: sample.signed,
-            big: sample.width > 1 && self.big == Some(true),
+            big: order_of(sample.width, self.big),
         })
     }
+}
+
+/// Samples of more than one byte have an order of bytes, which is not stated.
+fn lacks_order(width: u8, big: Option<bool>) -> bool
+    ensures { result ≡ (nat_lt 1 width && not (is_some big)) }
+{
+    width > 1 && big.is_none()
+}
+
+/// The high byte stands first. A sample of one byte has no order.
+fn order_of(width: u8, big: Option<bool>) -> bool
+    ensures { result ≡ (nat_lt 1 width && unwrap_or big false) }
+{
+    width > 1 && big.unwrap_or(false)
 }

@@ -1,17 +1,19 @@
-use Rattle.std.proofs.Common.{◌≡◌, ◌≤◌, ◌-◌, ◌*◌, vec_len, All}
-use Rattle.nrrd_raw.specs.Taken.{TakesAtMost}
+use Rattle.std.proofs.Common.{◌≡◌, ℕ, ◌≤◌, ◌-◌, ◌*◌, List, length, vec_len, All}
+use Rattle.nrrd_raw.specs.Causes.{ReadsSamples}
 use Rattle.nrrd_raw.specs.Shapes.{InRange}
+use Rattle.nrrd_raw.specs.Taken.{TakesAtMost}
 use Rattle.nrrd_raw.proofs.reading.take_samples.Given as goal
 
-abbrev pub invariant-loop-samples : goal.invariant-loop-samples
-invariant-loop-samples g l = record {
+abbrev pub invariant-pieces : goal.invariant-pieces
+invariant-pieces g l = record {
   later : g.S.Shelf.faults l.initial.shelf ≤ g.S.Shelf.faults l.shelf;
   stays : g.S.Shelf.files l.shelf ≡ g.S.Shelf.files l.initial.shelf;
   sound_stays : g.S.Shelf.sound l.initial.shelf → g.S.Shelf.sound l.shelf;
   few : vec_len l.samples ≤ l.count;
   range : All InRange l.samples.items;
   taken : TakesAtMost (vec_len l.samples * l.width) (g.S.Shelf.rest l.initial.shelf) (g.S.Shelf.rest l.shelf);
+  read : ReadsSamples l.header (g.S.Shelf.rest l.initial.shelf) (g.S.Shelf.rest l.shelf) (vec_len l.samples) l.samples.items
 }
 
-abbrev pub decreases-loop-samples : goal.decreases-loop-samples
-decreases-loop-samples g l = l.count - vec_len l.samples
+abbrev pub decreases-pieces : goal.decreases-pieces
+decreases-pieces g l = l.count - vec_len l.samples

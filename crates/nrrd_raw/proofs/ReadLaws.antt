@@ -1,0 +1,112 @@
+-- Samples that are read in pieces.
+use Rattle.std.proofs.Common.{◌≡◌, ℕ, ◌+◌, ◌*◌, ◌<◌, ◌≤◌, ◌++◌, [], ◌∷◌, ℤ, Bool, true, false, List, length, take, Option, Some, None, refl, sym, ap, subst, append-nil, ◌∙◌, arith, length-append}
+use Rattle.std.proofs.Math.Nat.{mul-le-mul_right}
+use Rattle.std.proofs.lemmas.List.{take_all, length-take-le}
+use Rattle.std.specs.Io.KnownBytes.{Consumes, IsAtEnd}
+use Rattle.std.proofs.KnownBytes.{Consumes-nil, Consumes-trans}
+use Rattle.iso_model.specs.GridFile.{Header, samples_of}
+use Rattle.nrrd_raw.specs.Causes.{ReadsSamples, ReadsMore, IsCutOff, IsDataFault}
+use Rattle.nrrd_raw.specs.Taken.{FillsUp}
+use Rattle.nrrd_raw.specs.declared.faults.GridFault.{GridFault}
+use Rattle.nrrd_raw.specs.declared.faults.GridFault.TheVariants.{DataShort, Trailing, TooLarge, Shelf, Memory}
+use Rattle.nrrd_raw.specs.Faults.{is_piece_fault, is_data_fault}
+use Rattle.iso_model.specs.Values.{Grid, product}
+use Rattle.iso_model.specs.GridFile.{SpellsSamples, sample_limit}
+use Rattle.iso_model.specs.GridFaults.{HasSampleFault, too_many, cut_off, overlong, data_too_short, data_trailing, sizes_too_large}
+use Rattle.std.specs.Prelude.{IfSome, IsTrue}
+use Rattle.nrrd_raw.specs.Causes.{cause_of}
+use Rattle.nrrd_raw.proofs.SampleLaws.{samples_of-append}
+
+-- nothing was read at the start
+pub ReadsSamples-none : (h : Header) (a : Option (List ℕ)) (items : List ℤ) → items ≡ [] → ReadsSamples h a a 0 items
+ReadsSamples-none h a items e = record { came = []; whole = omega arith; taken = Consumes-nil a; spelled = e }
+
+-- a piece more was read
+pub ReadsSamples-more : (h : Header) (a b c : Option (List ℕ)) (n m k : ℕ) (before after : List ℤ) → k ≡ n + m
+    → ReadsSamples h a b n before → ReadsMore h b c m before after → ReadsSamples h a c k after
+ReadsSamples-more h a b c n m k before after e p q = record {
+  came = p.came ++ q.came;
+  whole = rw e (omega (arith, length-append p.came q.came, p.whole, q.whole));
+  taken = Consumes-trans a b c p.came q.came p.taken q.taken;
+  spelled = q.spelled ∙ ap (λ items. items ++ samples_of h m q.came) p.spelled ∙ sym (samples_of-append h n m p.came q.came p.whole) ∙ ap (λ i. samples_of h i (p.came ++ q.came)) (sym e)
+}
+
+-- a full buffer holds the bytes that came
+pub ReadsMore-filled : (h : Header) (a b : Option (List ℕ)) (more count : ℕ) (buf : List ℕ) (before after : List ℤ) → FillsUp a b buf count → length buf ≤ count
+    → length buf ≡ more * h.width → after ≡ before ++ samples_of h more buf → ReadsMore h a b more before after
+ReadsMore-filled h a b more count buf before after f full whole e =
+    let all = take_all count buf full in
+    record {
+      came = take count buf;
+      whole = ap length all ∙ whole;
+      taken = f.came;
+      spelled = e ∙ ap (λ bytes. before ++ samples_of h more bytes) (sym all)
+    }
+
+-- the file ended before the buffer was full
+pub IsCutOff-short : (h : Header) (a b : Option (List ℕ)) (before more count came : ℕ) (buf : List ℕ) → FillsUp a b buf came → came < length buf
+    → length buf ≡ more * h.width → count ≡ before * h.width + came → IsCutOff h a b before more (DataShort count)
+IsCutOff-short h a b before more count came buf f short whole e =
+    let len = length-take-le came buf f.within in
+    (take came buf, omega (arith, len), omega (arith, e, len), f.came, f.ended short)
+
+-- behind the samples that were read before, so many bytes came in all
+pub IsDataFault-short : (h : Header) (a b c : Option (List ℕ)) (n more wanted count : ℕ) (items : List ℤ) → ReadsSamples h a b n items
+    → n + more ≤ wanted → IsCutOff h b c n more (DataShort count) → IsDataFault (wanted * h.width) a c (DataShort count)
+IsDataFault-short h a b c n more wanted count items p l q =
+    let most : (n + more) * h.width ≤ wanted * h.width = mul-le-mul_right h.width l in
+    (p.came ++ q.0, omega (arith, length-append p.came q.0, p.whole, q.2), omega (arith, q.1, q.2, most), Consumes-trans a b c p.came q.0 p.taken q.3, q.4)
+
+-- one byte follows the samples
+pub IsDataFault-trailing : (h : Header) (a b c : Option (List ℕ)) (n wanted byte : ℕ) (items : List ℤ) → ReadsSamples h a b n items → n ≡ wanted
+    → Consumes b c (byte ∷ []) → IsDataFault (wanted * h.width) a c Trailing
+IsDataFault-trailing h a b c n wanted byte items p e q =
+    (p.came ++ byte ∷ [], length-append p.came (byte ∷ []) ∙ ap (λ len. len + 1) (p.whole ∙ ap (λ i. i * h.width) e), Consumes-trans a b c p.came (byte ∷ []) p.taken q)
+
+pub IsDataFault-cut : (h : Header) (a b c : Option (List ℕ)) (n more wanted : ℕ) (items : List ℤ) (fault : GridFault) → ReadsSamples h a b n items
+    → n + more ≤ wanted → IsTrue (is_piece_fault fault) → IsCutOff h b c n more fault → IsDataFault (wanted * h.width) a c fault
+IsDataFault-cut h a b c n more wanted items (DataShort count) p l t q = IsDataFault-short h a b c n more wanted count items p l q
+IsDataFault-cut h a b c n more wanted items Trailing p l t q = absurd (false_not t)
+  where
+    false_not : IsTrue (is_piece_fault Trailing) → ⊥
+    false_not t = cc
+IsDataFault-cut h a b c n more wanted items fault p l t q = tt
+
+-- ---- where the rest is told
+
+-- bytes of which all were taken
+all_taken : (bytes ys came : List ℕ) → bytes ≡ came ++ ys → ys ≡ [] → bytes ≡ came
+all_taken bytes ys came e n = e ∙ ap (λ zs. came ++ zs) n ∙ append-nil came
+
+pub SpellsSamples-told : (h : Header) (old new : Option (List ℕ)) (samples : List ℤ) → ReadsSamples h old new (product h.sizes) samples → IsAtEnd new
+    → product h.sizes ≤ sample_limit → IfSome old (λ bytes. SpellsSamples h bytes (record { sizes = h.sizes; samples = samples }))
+SpellsSamples-told h None new samples r end few = tt
+SpellsSamples-told h (Some bytes) None samples r end few = absurd r.taken
+SpellsSamples-told h (Some bytes) (Some ys) samples r end few =
+    let same : bytes ≡ r.came = all_taken bytes ys r.came r.taken end in
+    record {
+      few = few;
+      whole = ap length same ∙ r.whole;
+      grid = ap (λ (items : List ℤ). record { sizes = h.sizes; samples = items }) (r.spelled ∙ ap (λ bs. samples_of h (product h.sizes) bs) (sym same))
+    }
+
+pub HasSampleFault-too_large : (h : Header) (old : Option (List ℕ)) (count : ℕ) → sample_limit < product h.sizes → count ≡ product h.sizes
+    → IfSome old (λ bytes. HasSampleFault h bytes (sizes_too_large count))
+HasSampleFault-too_large h None count l e = tt
+HasSampleFault-too_large h (Some bytes) count l e = subst (λ (n : ℕ). HasSampleFault h bytes (sizes_too_large n)) (sym e) (too_many l)
+
+pub HasSampleFault-told : (h : Header) (old new : Option (List ℕ)) (fault : GridFault) → product h.sizes ≤ sample_limit → IsTrue (is_data_fault fault)
+    → IsDataFault (product h.sizes * h.width) old new fault → IfSome old (λ bytes. IfSome (cause_of fault) (HasSampleFault h bytes))
+HasSampleFault-told h None new fault few t d = tt
+HasSampleFault-told h (Some bytes) None (DataShort count) few t d = absurd d.3
+HasSampleFault-told h (Some bytes) (Some ys) (DataShort count) few t d =
+    let len : length bytes ≡ count = ap length (all_taken bytes ys d.0 d.3 d.4) ∙ d.1 in
+    subst (λ (n : ℕ). HasSampleFault h bytes (data_too_short n)) len (cut_off few (omega (arith, len, d.2)))
+HasSampleFault-told h (Some bytes) None Trailing few t d = absurd d.2
+HasSampleFault-told h (Some bytes) (Some ys) Trailing few t d = overlong few (omega (arith, ap length d.2, length-append d.0 ys, d.1))
+HasSampleFault-told h (Some bytes) new (Shelf count) few t d = tt
+HasSampleFault-told h (Some bytes) new Memory few t d = tt
+HasSampleFault-told h (Some bytes) new fault few t d = absurd (no_data_fault t)
+  where
+    no_data_fault : false ≡ true → ⊥
+    no_data_fault e = cc

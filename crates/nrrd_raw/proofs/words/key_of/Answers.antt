@@ -1,0 +1,15 @@
+use Rattle.std.proofs.Common.{◌≡◌, ℕ, List, false, sym, ap, ◌∙◌}
+use Rattle.std.specs.List.{list_any}
+use Rattle.std.specs.Str.{str_to_ascii_lowercase}
+use Rattle.iso_model.specs.Orders.{same_list}
+use Rattle.iso_model.specs.HeaderLines.{skip_names, data_file_names, is_among}
+use Rattle.nrrd_raw.proofs.WordLaws.{lower-lower}
+use Rattle.nrrd_raw.proofs.words.key_of.Goals as goal
+
+pub returns-in-None : goal.returns-in-None
+returns-in-None c =
+    let lower = lower-lower c.args.name.now in (
+      ap (λ (w : List ℕ). list_any (same_list w) skip_names) lower ∙ sym c.names_skip.ensures ∙ c.if-names_skip.false,
+      ap (λ (w : List ℕ). list_any (same_list w) data_file_names) lower ∙ sym c.names_data_file.ensures ∙ c.if-names_data_file.false,
+      c.in-None.ensures.none,
+    )

@@ -1,0 +1,13 @@
+-- What a line says, and how its parts are found.
+use Rattle.std.specs.Prelude.{◌≡◌, ℕ, ◌==◌, ◌-◌, Bool, nat_eq, List, length, take, drop, slice_index, if◌then◌else◌}
+use Rattle.std.specs.List.{before_first}
+use Rattle.std.specs.Str.{str_to_ascii_lowercase}
+use Rattle.iso_model.specs.HeaderLines as lines
+use Rattle.nrrd_raw.specs.declared.content.Content.{Content}
+use Rattle.nrrd_raw.specs.declared.content.Content.TheVariants.{PassedOver, Field, Unreadable}
+
+-- a field's name is seen in lower case
+abbrev pub content_view : Content → lines.Content
+content_view PassedOver = lines.passed_over
+content_view (Field name value) = lines.named_field (str_to_ascii_lowercase name.now) value.now
+content_view Unreadable = lines.unreadable

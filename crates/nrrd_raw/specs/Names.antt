@@ -1,0 +1,45 @@
+-- The words of a header, as the code reads them.
+use Rattle.std.specs.Prelude.{◌≡◌, ℕ, Bool, true, false, List, [], ◌∷◌, codes, take, Option}
+use Rattle.std.specs.Option.{option_map}
+use Rattle.iso_model.specs.declared.Field.{Field}
+use Rattle.iso_model.specs.Orders.{same_list}
+use Rattle.iso_model.specs.HeaderLines as lines
+use Rattle.nrrd_raw.specs.declared.values.Sample.{Sample}
+use Rattle.nrrd_raw.specs.declared.values.Sizes.{Sizes}
+use Rattle.nrrd_raw.specs.declared.words.Key.{Key}
+use Rattle.nrrd_raw.specs.declared.words.Key.TheVariants.{Skip, DataFile, Read, Other}
+
+-- the names of each sample type
+abbrev pub signed_8 : List (List ℕ)
+signed_8 = codes "signed char" ∷ codes "int8" ∷ codes "int8_t" ∷ []
+
+abbrev pub unsigned_8 : List (List ℕ)
+unsigned_8 = codes "uchar" ∷ codes "unsigned char" ∷ codes "uint8" ∷ codes "uint8_t" ∷ []
+
+abbrev pub signed_16 : List (List ℕ)
+signed_16 = codes "short" ∷ codes "short int" ∷ codes "signed short" ∷ codes "signed short int" ∷ codes "int16" ∷ codes "int16_t" ∷ []
+
+abbrev pub unsigned_16 : List (List ℕ)
+unsigned_16 = codes "ushort" ∷ codes "unsigned short" ∷ codes "unsigned short int" ∷ codes "uint16" ∷ codes "uint16_t" ∷ []
+
+abbrev pub signed_32 : List (List ℕ)
+signed_32 = codes "int" ∷ codes "signed int" ∷ codes "int32" ∷ codes "int32_t" ∷ []
+
+abbrev pub unsigned_32 : List (List ℕ)
+unsigned_32 = codes "uint" ∷ codes "unsigned int" ∷ codes "uint32" ∷ codes "uint32_t" ∷ []
+
+-- a sample's bytes, and whether it is signed
+abbrev pub sample_view : Sample → lines.Sample
+sample_view s = record { width = s.width; signed = s.signed }
+
+-- what a field of this name, in lower case, is read as
+abbrev pub IsKey : List ℕ → Key → Type 0
+IsKey name Skip = lines.is_among lines.skip_names name ≡ true
+IsKey name DataFile = (lines.is_among lines.skip_names name ≡ false) × (lines.is_among lines.data_file_names name ≡ true)
+IsKey name (Read field) = name ≡ lines.field_name field
+IsKey name Other = (lines.is_among lines.skip_names name ≡ false) × (lines.is_among lines.data_file_names name ≡ false)
+    × ((field : Field) → same_list name (lines.field_name field) ≡ false)
+
+-- the sizes without the ones beyond them
+abbrev pub sizes_view : Sizes → List ℕ
+sizes_view s = take s.count s.places

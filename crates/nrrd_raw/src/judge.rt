@@ -1,0 +1,39 @@
+//! Judging the lines of a header.
+
+ghost use Rattle.std.specs.Prelude.{◌≡◌, ◌<◌, ◌≤◌, [], List, ℕ, length, slice_index_or, IfErr, IfOk, IsTrue, IsFalse};
+ghost use Rattle.iso_model.specs.HeaderLines.{HasLines, is_first_line};
+ghost use Rattle.iso_model.specs.GridFile.{IsRegularHeader, SpellHeader};
+ghost use Rattle.iso_model.specs.GridFaults.{lines_fault};
+ghost use Rattle.nrrd_raw.specs.Causes.{cause_of};
+ghost use Rattle.nrrd_raw.specs.Faults.{is_header_fault, is_shelf_fault};
+
+use crate::faults::GridFault;
+use crate::headers::Header;
+use crate::lines::line_at;
+use crate::stated::Stated;
+
+/// The header that the bytes spell, or the first cause that one of its lines or its fields has. The bytes begin with a
+/// right first line, and end with an empty one.
+pub(crate) fn header_of(bytes: &[u8]) -> Result<Header, GridFault>
+    requires some { 0 < length bytes.now }
+    requires short { length bytes.now ≤ 65536 }
+    ensures causes { IfErr result (λ fault. IsTrue (is_header_fault fault)) }
+    ensures form { IfErr result (λ fault. IsFalse (is_shelf_fault fault)) }
+    ensures regular { IfOk result IsRegularHeader }
+    ensures spelled { IfOk result (λ header. (texts : List (List ℕ)) → HasLines bytes.now texts [] → IsTrue (is_first_line (slice_index_or texts 0 [])) → SpellHeader texts header) }
+    ensures cause { IfErr result (λ fault. (texts : List (List ℕ)) → HasLines bytes.now texts [] → IsTrue (is_first_line (slice_index_or texts 0 [])) → lines_fault texts ≡ cause_of fault) }
+{
+    let mut stated = Stated::none();
+    let mut number = 2u32;
+    let (_, mut at) = line_at(bytes, 0);
+    'lines: while at < bytes.len() {
+        let (text, next) = line_at(bytes, at);
+        if text.is_empty() {
+            break;
+        }
+        stated = stated.with_line(number, text)?;
+        number += 1;
+        at = next;
+    }
+    stated.header()
+}
