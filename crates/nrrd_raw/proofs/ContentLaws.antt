@@ -1,12 +1,12 @@
 -- What a line says, from the place of its first colon.
-use Rattle.std.proofs.Common.{◌≡◌, ℕ, ◌+◌, ◌<◌, Bool, true, false, not, cond, nat_eq, List, [], ◌∷◌, length, take, drop, map, refl, sym, ap, ◌∙◌, subst, arith}
+use Rattle.std.proofs.Common.{◌≡◌, ℕ, ◌+◌, ◌<◌, Bool, true, false, not, cond, nat_eq, List, [], ◌∷◌, length, take, drop, refl, sym, ap, ◌∙◌, arith}
 use Rattle.std.specs.Prelude.{◌||◌, ◌==◌, if◌then◌else◌}
-use Rattle.std.specs.List.{position_or_len, list_any, before_first, after_first}
+use Rattle.std.specs.List.{position_or_len, list_any, after_first}
 use Rattle.std.specs.Str.{str_to_ascii_lowercase}
 use Rattle.std.specs.Char.{to_ascii_lowercase}
 use Rattle.std.proofs.lemmas.List.{length-map}
 use Rattle.iso_model.specs.Orders.{has}
-use Rattle.iso_model.specs.HeaderLines.{Content, named_field, unreadable, passed_over, content, is_comment, is_pair, is_empty, name_of, trimmed}
+use Rattle.iso_model.specs.HeaderLines.{named_field, unreadable, passed_over, content, is_comment, is_pair, is_empty, name_of, trimmed}
 
 has_none_cases : (p : ℕ → Bool) (x : ℕ) (xs : List ℕ) (b : Bool) → cond (not b) (1 + position_or_len p xs) 0 ≡ length (x ∷ xs)
     → (position_or_len p xs ≡ length xs → list_any p xs ≡ false) → b || list_any p xs ≡ false

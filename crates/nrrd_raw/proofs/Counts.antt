@@ -1,5 +1,5 @@
 -- The product of the sizes, from four places.
-use Rattle.std.proofs.Common.{◌≡◌, ◌⊎◌, ℕ, zero, suc, ◌+◌, ◌*◌, ◌^◌, ◌<◌, ◌≤◌, List, [], ◌∷◌, length, take, get_or, All, refl, sym, ap, ◌∙◌, arith}
+use Rattle.std.proofs.Common.{◌≡◌, ℕ, zero, suc, ◌*◌, ◌^◌, ◌<◌, ◌≤◌, List, [], ◌∷◌, length, take, get_or, arith}
 use Rattle.std.proofs.Math.Nat.{mul-le-mul}
 use Rattle.iso_model.specs.Values.{product}
 use Rattle.nrrd_raw.specs.Shapes.{HasShape, AreSizes}

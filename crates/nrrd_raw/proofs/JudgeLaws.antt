@@ -1,11 +1,10 @@
 -- The lines of a header, judged one after another.
-use Rattle.std.proofs.Common.{◌≡◌, ◌⊎◌, inl, inr, ℕ, zero, suc, ◌+◌, ◌-◌, ◌<◌, ◌≤◌, Bool, true, false, not, List, [], ◌∷◌, ◌++◌, map, length, take, drop, get_or, Option, Some, None, refl, sym, ap, ◌∙◌, subst, arith, length-append, append-nil}
-use Rattle.std.specs.Prelude.{Result, Ok, Err, IfOk, IfErr, IsFalse, ◌==◌, nat_eq, flat_map, slice_index_or, is_some, IsTrue}
+use Rattle.std.proofs.Common.{◌≡◌, ◌⊎◌, inl, inr, ℕ, zero, suc, ◌+◌, ◌-◌, ◌<◌, ◌≤◌, false, not, List, [], ◌∷◌, ◌++◌, map, length, take, drop, get_or, Option, Some, None, refl, sym, ap, ◌∙◌, subst, arith, length-append, append-nil}
+use Rattle.std.specs.Prelude.{Result, Ok, Err, IfOk, IfErr, IsFalse, ◌==◌, nat_eq, flat_map, slice_index_or, IsTrue}
 use Rattle.std.specs.List.{AllPass, position_or_len, range_with_len}
 use Rattle.std.proofs.lemmas.Bool.{false≢true, cases_lt}
-use Rattle.std.proofs.lemmas.Bool.Decides.{nat_tests}
-use Rattle.std.proofs.lemmas.List.{append_assoc, take_more, take_all, length-take-le, get_or_append_left, get_or-append_right, length-map, length-drop, drop_all, drop_more}
-use Rattle.iso_model.specs.HeaderLines.{Line, is_line, line_bytes, is_filled, HasLines, is_first_line, content, Content, first_some}
+use Rattle.std.proofs.lemmas.List.{append_assoc, take_more, take_all, length-take-le, get_or_append_left, get_or-append_right, length-map, drop_all, drop_more}
+use Rattle.iso_model.specs.HeaderLines.{Line, line_bytes, is_filled, HasLines, is_first_line, content, first_some}
 use Rattle.iso_model.specs.GridFile.{Header, SpellHeader, is_sound_line}
 use Rattle.iso_model.specs.GridFaults.{GridFault, line_fault, content_fault, lines_fault, missing_fault, count_fault, all_fields}
 use Rattle.iso_model.proofs.HeaderLaws.{header_of_lines}
@@ -114,7 +113,7 @@ module _ (bytes : List ℕ) (texts : List (List ℕ)) (p : HasLines bytes texts 
         clean = λ j a b. elim (cases_lt j n) [
           | inl before ↦ r.clean j a before
           | inr here ↦ (let same : n ≡ j = omega arith in subst (λ (i : ℕ). line_fault texts i ≡ None) same (line_is l number e ∙ both.1))
-        ]
+        ];
       }
 
   pub reading-fault : (number : ℕ) (f : fault.GridFault) (x : GridFault) → 0 < length text → 1 ≤ n → number ≡ n + 1 → HasCause s number (content text) f → cause_of f ≡ Some x → lines_fault texts ≡ Some x
@@ -156,7 +155,7 @@ pub record IsDone (texts : List (List ℕ)) (s : Stated) : Type 0 where
 pub reading-done : (texts : List (List ℕ)) (ls : List Line) (bytes : List ℕ) (at n : ℕ) (s : Stated) → ReadingOf texts ls bytes at n s → n ≡ length texts → IsDone texts s
 reading-done texts ls bytes at n s r e = record {
   stated = subst (λ (ts : List (List ℕ)). States s ts) (take_all n texts (omega arith)) r.stated;
-  clean = λ j a b. r.clean j a (omega arith)
+  clean = λ j a b. r.clean j a (omega arith);
 }
 
 abbrev Done : List ℕ → Stated → Type 0

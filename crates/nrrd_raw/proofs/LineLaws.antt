@@ -1,13 +1,13 @@
 -- The first line of bytes.
-use Rattle.std.proofs.Common.{◌≡◌, ℕ, zero, suc, ◌+◌, ◌-◌, ◌<◌, ◌≤◌, Bool, true, false, not, nat_eq, List, [], ◌∷◌, ◌++◌, map, length, take, drop, get_or, Option, Some, None, refl, sym, ap, ◌∙◌, subst, arith, length-append}
+use Rattle.std.proofs.Common.{◌≡◌, ℕ, ◌+◌, ◌-◌, ◌<◌, Bool, true, false, not, nat_eq, List, [], ◌∷◌, ◌++◌, map, length, take, drop, get_or, Option, Some, None, refl, sym, ap, ◌∙◌, subst, arith, length-append}
 use Rattle.std.specs.Prelude.{◌&&◌, ◌||◌, ◌==◌, flat_map, slice_index, slice_index_or, if◌then◌else◌}
-use Rattle.std.specs.List.{AllPass, position_or_len, before_first, last_or}
+use Rattle.std.specs.List.{AllPass, position_or_len, last_or}
 use Rattle.std.specs.Option.{option_map_or}
 use Rattle.std.proofs.lemmas.Bool.{false≢true}
 use Rattle.std.proofs.lemmas.Bool.Decides.{nat_tests}
-use Rattle.std.proofs.lemmas.List.{append_assoc, length_push, get_or_push, take_at, drop_at, drop_more, drop-drop, length-drop, get_or-map, get_or_append_left, get_or-append_right, length-map}
+use Rattle.std.proofs.lemmas.List.{append_assoc, length_push, get_or_push, take_at, drop_at, drop_more, drop-drop, length-drop, get_or-map}
 use Rattle.iso_model.specs.Orders.{has}
-use Rattle.iso_model.specs.HeaderLines.{Line, is_line, line_bytes, is_filled}
+use Rattle.iso_model.specs.HeaderLines.{Line, is_line, line_bytes}
 use Rattle.nrrd_raw.specs.Ends.{without_return, first_text}
 
 and_true : (a b : Bool) → a && b ≡ true → (a ≡ true) × (b ≡ true)
@@ -70,7 +70,7 @@ starts_cases t true x e =
     record {
       text = ap (λ i. without_return (take i ((t ++ 13 ∷ 10 ∷ []) ++ x))) place ∙ ap (λ zs. without_return (take (length (t ++ 13 ∷ [])) zs)) form
           ∙ ap without_return (take_at (t ++ 13 ∷ []) (10 ∷ x) (length (t ++ 13 ∷ [])) refl) ∙ without_return-return t;
-      end = omega (arith, place, length-append t (13 ∷ []), length-append t (13 ∷ 10 ∷ []))
+      end = omega (arith, place, length-append t (13 ∷ []), length-append t (13 ∷ 10 ∷ []));
     }
 starts_cases t false x e =
     let plain = not_true (has t 10) (and_true _ _ e).0 in
@@ -80,7 +80,7 @@ starts_cases t false x e =
     record {
       text = ap (λ i. without_return (take i ((t ++ 10 ∷ []) ++ x))) place ∙ ap (λ zs. without_return (take (length t) zs)) form
           ∙ ap without_return (take_at t (10 ∷ x) (length t) refl) ∙ without_return-plain t bare;
-      end = omega (arith, place, length-append t (10 ∷ []))
+      end = omega (arith, place, length-append t (10 ∷ []));
     }
 
 pub starts_with_line : (l : Line) (x : List ℕ) → is_line l ≡ true → StartsWithLine (line_bytes l ++ x) l
@@ -112,7 +112,7 @@ steps bytes ls at n text next are few left t e =
     let next_is : next ≡ at + length (line_bytes l) = omega (arith, e (omega (arith, place, len, whole)), place) in
     record {
       same = t ∙ ap first_text form ∙ s.text ∙ sym (get_or-map (λ (k : Line). k.text) ls n no_line [] few);
-      left = ap (λ i. drop i bytes) next_is ∙ sym (drop-drop (length (line_bytes l)) at bytes) ∙ ap (drop (length (line_bytes l))) form ∙ drop_at (line_bytes l) more (length (line_bytes l)) refl
+      left = ap (λ i. drop i bytes) next_is ∙ sym (drop-drop (length (line_bytes l)) at bytes) ∙ ap (drop (length (line_bytes l))) form ∙ drop_at (line_bytes l) more (length (line_bytes l)) refl;
     }
 
 -- a line has at least one byte

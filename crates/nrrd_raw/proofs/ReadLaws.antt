@@ -1,5 +1,5 @@
 -- Samples that are read in pieces.
-use Rattle.std.proofs.Common.{◌≡◌, ℕ, ◌+◌, ◌*◌, ◌<◌, ◌≤◌, ◌++◌, [], ◌∷◌, ℤ, Bool, true, false, List, length, take, Option, Some, None, refl, sym, ap, subst, append-nil, ◌∙◌, arith, length-append}
+use Rattle.std.proofs.Common.{◌≡◌, ℕ, ◌+◌, ◌*◌, ◌<◌, ◌≤◌, ◌++◌, [], ◌∷◌, ℤ, true, false, List, length, take, Option, Some, None, sym, ap, subst, append-nil, ◌∙◌, arith, length-append}
 use Rattle.std.proofs.Math.Nat.{mul-le-mul_right}
 use Rattle.std.proofs.lemmas.List.{take_all, length-take-le}
 use Rattle.std.specs.Io.KnownBytes.{Consumes, IsAtEnd}
@@ -8,11 +8,11 @@ use Rattle.iso_model.specs.GridFile.{Header, samples_of}
 use Rattle.nrrd_raw.specs.Causes.{ReadsSamples, ReadsMore, IsCutOff, IsDataFault}
 use Rattle.nrrd_raw.specs.Taken.{FillsUp}
 use Rattle.nrrd_raw.specs.declared.faults.GridFault.{GridFault}
-use Rattle.nrrd_raw.specs.declared.faults.GridFault.TheVariants.{DataShort, Trailing, TooLarge, Shelf, Memory}
+use Rattle.nrrd_raw.specs.declared.faults.GridFault.TheVariants.{DataShort, Trailing, Shelf, Memory}
 use Rattle.nrrd_raw.specs.Faults.{is_piece_fault, is_data_fault}
-use Rattle.iso_model.specs.Values.{Grid, product}
+use Rattle.iso_model.specs.Values.{product}
 use Rattle.iso_model.specs.GridFile.{SpellsSamples, sample_limit}
-use Rattle.iso_model.specs.GridFaults.{HasSampleFault, too_many, cut_off, overlong, data_too_short, data_trailing, sizes_too_large}
+use Rattle.iso_model.specs.GridFaults.{HasSampleFault, too_many, cut_off, overlong, data_too_short, sizes_too_large}
 use Rattle.std.specs.Prelude.{IfSome, IsTrue}
 use Rattle.nrrd_raw.specs.Causes.{cause_of}
 use Rattle.nrrd_raw.proofs.SampleLaws.{samples_of-append}
@@ -28,7 +28,7 @@ ReadsSamples-more h a b c n m k before after e p q = record {
   came = p.came ++ q.came;
   whole = rw e (omega (arith, length-append p.came q.came, p.whole, q.whole));
   taken = Consumes-trans a b c p.came q.came p.taken q.taken;
-  spelled = q.spelled ∙ ap (λ items. items ++ samples_of h m q.came) p.spelled ∙ sym (samples_of-append h n m p.came q.came p.whole) ∙ ap (λ i. samples_of h i (p.came ++ q.came)) (sym e)
+  spelled = q.spelled ∙ ap (λ items. items ++ samples_of h m q.came) p.spelled ∙ sym (samples_of-append h n m p.came q.came p.whole) ∙ ap (λ i. samples_of h i (p.came ++ q.came)) (sym e);
 }
 
 -- a full buffer holds the bytes that came
@@ -40,7 +40,7 @@ ReadsMore-filled h a b more count buf before after f full whole e =
       came = take count buf;
       whole = ap length all ∙ whole;
       taken = f.came;
-      spelled = e ∙ ap (λ bytes. before ++ samples_of h more bytes) (sym all)
+      spelled = e ∙ ap (λ bytes. before ++ samples_of h more bytes) (sym all);
     }
 
 -- the file ended before the buffer was full
@@ -87,7 +87,7 @@ SpellsSamples-told h (Some bytes) (Some ys) samples r end few =
     record {
       few = few;
       whole = ap length same ∙ r.whole;
-      grid = ap (λ (items : List ℤ). record { sizes = h.sizes; samples = items }) (r.spelled ∙ ap (λ bs. samples_of h (product h.sizes) bs) (sym same))
+      grid = ap (λ (items : List ℤ). record { sizes = h.sizes; samples = items }) (r.spelled ∙ ap (λ bs. samples_of h (product h.sizes) bs) (sym same));
     }
 
 pub HasSampleFault-too_large : (h : Header) (old : Option (List ℕ)) (count : ℕ) → sample_limit < product h.sizes → count ≡ product h.sizes

@@ -1,6 +1,6 @@
 -- What the bytes of a sample spell, by width, sign and order.
-use Rattle.std.proofs.Common.{◌≡◌, ◌⊎◌, inl, inr, ℕ, zero, suc, ◌+◌, ◌-◌, ◌*◌, ◌^◌, ◌<◌, ◌≤◌, Bool, true, false, ltb, leb, ℤ, pos, negsuc, List, [], ◌∷◌, ◌++◌, map, length, take, drop, get_or, refl, sym, ap, ◌∙◌, subst, arith, length-append}
-use Rattle.std.specs.Prelude.{◌-ℤ◌, slice_index, if◌then◌else◌, nat_le, nat_lt}
+use Rattle.std.proofs.Common.{◌≡◌, ◌⊎◌, inl, inr, ℕ, suc, ◌+◌, ◌-◌, ◌*◌, ◌^◌, ◌<◌, ◌≤◌, Bool, true, false, ltb, leb, ℤ, pos, negsuc, List, [], ◌∷◌, ◌++◌, length, take, drop, refl, sym, ap, ◌∙◌, arith, length-append}
+use Rattle.std.specs.Prelude.{◌-ℤ◌, slice_index, if◌then◌else◌, nat_le}
 use Rattle.std.specs.Int.{w8, w16, w32, cast_signed}
 use Rattle.std.proofs.Math.Nat.{mul-le-mul_right}
 use Rattle.std.proofs.lemmas.Bool.{cases_lt}
@@ -99,9 +99,9 @@ pub samples_spelled : (h : Header) (value : List ℕ → ℤ) (width count : ℕ
 samples_spelled h value width count piece samples w n len bytes spells values =
     same_lists samples (samples_of h count piece) (n ∙ sym (length-map-range_with_len (λ i. sample_value h (group_at h.width piece i)) 0 count))
     (λ k d l. values k d l
-        ∙ spells (drop (k * width) piece) (omega (arith, room k count width (length piece) (omega arith) len, length-drop (k * width) piece)) (bytes_behind (k * width) piece bytes)
-        ∙ ap (λ i. sample_value h (take i (drop (k * i) piece))) (sym w)
-        ∙ sym (get_or-map-range_with_len (λ i. sample_value h (group_at h.width piece i)) 0 count k k d (omega arith) (omega arith)))
+    ∙ spells (drop (k * width) piece) (omega (arith, room k count width (length piece) (omega arith) len, length-drop (k * width) piece)) (bytes_behind (k * width) piece bytes)
+    ∙ ap (λ i. sample_value h (take i (drop (k * i) piece))) (sym w)
+    ∙ sym (get_or-map-range_with_len (λ i. sample_value h (group_at h.width piece i)) 0 count k k d (omega arith) (omega arith)))
 
 -- ---- each form
 
@@ -164,7 +164,7 @@ samples_of-append h n m xs ys e =
     same_lists (samples_of h (n + m) (xs ++ ys)) (samples_of h n xs ++ samples_of h m ys)
     (all ∙ sym (length-append (samples_of h n xs) (samples_of h m ys) ∙ ap (λ i. i + length (samples_of h m ys)) first ∙ ap (λ i. n + i) second))
     (λ k d l. get_or-map-range_with_len (value (xs ++ ys)) 0 (n + m) k k d (omega arith) (omega arith)
-        ∙ elim (cases_lt k n) [
+    ∙ elim (cases_lt k n) [
       | inl b ↦ ap (sample_value h) (group_before h.width k xs ys (omega (arith, e, room_below k n h.width b)))
           ∙ sym (get_or-map-range_with_len (value xs) 0 n k k d b (omega arith))
           ∙ sym (get_or_append_left (samples_of h n xs) (samples_of h m ys) d k (omega (arith, first)))

@@ -1,11 +1,11 @@
 -- Words between blanks, one after another, and the sizes that they write.
-use Rattle.std.proofs.Common.{◌≡◌, ℕ, zero, suc, ◌+◌, ◌-◌, ◌<◌, ◌≤◌, Bool, true, false, not, cond, List, [], ◌∷◌, ◌++◌, map, length, take, drop, get_or, set, replicate, Option, Some, None, All, leb, refl, sym, ap, ◌∙◌, subst, arith, length-append}
+use Rattle.std.proofs.Common.{◌≡◌, ℕ, zero, suc, ◌+◌, ◌-◌, ◌<◌, ◌≤◌, Bool, true, false, List, [], ◌∷◌, ◌++◌, map, length, take, drop, get_or, set, replicate, Option, Some, None, leb, refl, sym, ap, ◌∙◌, subst, arith}
 use Rattle.std.specs.Prelude.{◌&&◌, ◌==◌, filter, nat_le, if◌then◌else◌}
-use Rattle.std.specs.List.{slice_split, position_or_len, list_all, before_first, after_first}
+use Rattle.std.specs.List.{slice_split, position_or_len, list_all}
 use Rattle.std.proofs.lemmas.Bool.Decides.{nat_tests}
 use Rattle.std.proofs.lemmas.Bool.{cases_lt}
 use Rattle.std.proofs.Common.{inl, inr}
-use Rattle.std.proofs.lemmas.List.{drop_more, drop-drop, drop_all, take_all, take_more, take_more_set, length-drop, length-take-le, get_or-drop, get_or_default, map-append, take-append-drop, length-take, length-set, drop-set-lt, drop-replicate}
+use Rattle.std.proofs.lemmas.List.{drop_more, drop-drop, drop_all, take_all, take_more, take_more_set, length-drop, get_or-drop, map-append, take-append-drop, length-take, length-set, drop-set-lt, drop-replicate}
 use Rattle.std.proofs.lemmas.List.Sums.{position_or_len_is}
 use Rattle.std.proofs.lemmas.List.Splits.{slice_split-cons_yes, slice_split_first, slice_split_none}
 use Rattle.std.proofs.lemmas.List.Elements.{All-from_get_or}
@@ -49,8 +49,8 @@ words_of-take xs a b l m none here = elim (cases_lt b (length xs)) [
       let ys = drop a xs in
       let len : length ys ≡ length xs - a = length-drop a xs in
       let place : position_or_len is_blank ys ≡ b - a = position_or_len_is is_blank ys (b - a) 0 (omega (arith, len))
-          (λ k h. ap is_blank (get_or-drop a xs k 0) ∙ none (a + k) (omega arith) (omega arith))
-          (λ h. let e : a + (b - a) ≡ b = omega arith in ap is_blank (get_or-drop a xs (b - a) 0) ∙ ap (λ i. is_blank (get_or xs i 0)) e ∙ here more) in
+      (λ k h. ap is_blank (get_or-drop a xs k 0) ∙ none (a + k) (omega arith) (omega arith))
+      (λ h. let e : a + (b - a) ≡ b = omega arith in ap is_blank (get_or-drop a xs (b - a) 0) ∙ ap (λ i. is_blank (get_or xs i 0)) e ∙ here more) in
       let e : a + (b - a + 1) ≡ b + 1 = omega arith in
       ap (filter is_filled) (slice_split_first is_blank ys 0 (omega (arith, place, len)))
       ∙ ap (λ i. filter is_filled (take i ys ∷ slice_split is_blank (drop (i + 1) ys))) place
@@ -127,7 +127,7 @@ ReadsWords-more ws rest next w count size places r e l s =
       few = omega (arith, n.below);
       fine = ap (list_all is_size) n.taken ∙ all_push (take count ws) w true r.fine v.0;
       read = take_more_set places count size l ∙ ap (λ ns. ns ++ size ∷ []) r.read ∙ ap (λ m. map numeral_value (take count ws) ++ m ∷ []) v.1
-          ∙ sym (map-append numeral_value (take count ws) (w ∷ [])) ∙ ap (map numeral_value) (sym n.taken)
+          ∙ sym (map-append numeral_value (take count ws) (w ∷ [])) ∙ ap (map numeral_value) (sym n.taken);
     }
 
 all_front : (xs ys : List (List ℕ)) → list_all is_size xs ≡ false → list_all is_size (xs ++ ys) ≡ false
@@ -156,6 +156,7 @@ too_many n b ns l = rw (test n l) (many_cases (nat_le 1 n) b ns)
   where
     test : (n : ℕ) → 4 < n → leb n 4 ≡ false
     test n l = grind (arith, nat_tests)
+
     many_cases : (a b : Bool) (ns : List ℕ) → None ≡ (if a && false && b then Some ns else None)
     many_cases true b ns = refl
     many_cases false b ns = refl
@@ -182,6 +183,7 @@ sizes_from-all ws count places r l m =
   where
     low : (n : ℕ) → 1 ≤ n → leb 1 n ≡ true
     low n l = grind (arith, nat_tests)
+
     high : (n : ℕ) → n ≤ 4 → leb n 4 ≡ true
     high n l = grind (arith, nat_tests)
 
@@ -200,5 +202,5 @@ HasShape-set count size places s l =
     record {
       few = omega arith;
       four = length-set places count size ∙ s.four;
-      beyond = drop-set-lt (count + 1) places count size (omega arith) ∙ sym (drop-drop 1 count places) ∙ ap (drop 1) s.beyond ∙ drop-replicate 1 (4 - count) 1 ∙ ap (λ n. replicate n 1) e
+      beyond = drop-set-lt (count + 1) places count size (omega arith) ∙ sym (drop-drop 1 count places) ∙ ap (drop 1) s.beyond ∙ drop-replicate 1 (4 - count) 1 ∙ ap (λ n. replicate n 1) e;
     }

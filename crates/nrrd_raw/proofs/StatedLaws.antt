@@ -1,8 +1,7 @@
 -- What a line more states.
-use Rattle.std.proofs.Common.{◌≡◌, ◌⊎◌, inl, inr, ℕ, zero, suc, ◌+◌, ◌-◌, ◌<◌, ◌≤◌, Bool, true, false, not, cond, eqb, List, [], ◌∷◌, ◌++◌, map, length, take, drop, Option, Some, None, refl, sym, ap, ◌∙◌, subst, arith, length-append, append-nil}
-use Rattle.std.specs.Prelude.{◌||◌, ◌&&◌, codes, is_some, IfSome, if◌then◌else◌}
-use Rattle.std.specs.List.{cons_option, filter_map, position_or_len, list_any}
-use Rattle.std.specs.Option.{option_map}
+use Rattle.std.proofs.Common.{◌≡◌, ◌⊎◌, inl, inr, ℕ, ◌+◌, ◌<◌, ◌≤◌, Bool, true, false, not, cond, eqb, List, [], ◌∷◌, ◌++◌, length, drop, Option, Some, None, refl, sym, ap, ◌∙◌, subst, arith, length-append, append-nil}
+use Rattle.std.specs.Prelude.{◌||◌, codes, is_some, IfSome}
+use Rattle.std.specs.List.{cons_option, filter_map, position_or_len}
 use Rattle.std.specs.Str.{str_to_ascii_lowercase}
 use Rattle.std.proofs.lemmas.Bool.{false≢true}
 use Rattle.std.proofs.lemmas.Bool.Decides.{nat_tests}
@@ -15,7 +14,7 @@ use Rattle.iso_model.specs.declared.Field.TheVariants.{SampleType, Dimension, Si
 use Rattle.iso_model.specs.Orders.{same_list}
 use Rattle.iso_model.specs.HeaderLines as lines
 use Rattle.iso_model.specs.HeaderLines.{Content, passed_over, named_field, unreadable, content, values, value_if, field_name, is_among, skip_names, data_file_names, is_zero, is_taken, is_empty, first_some}
-use Rattle.iso_model.specs.GridFaults.{GridFault, content_fault, line_of, wrong_skip, detached_data, repeated_field, value_fault}
+use Rattle.iso_model.specs.GridFaults.{content_fault, line_of}
 use Rattle.nrrd_raw.specs.declared.values.Sample.{Sample}
 use Rattle.nrrd_raw.specs.declared.values.Sizes as counted
 use Rattle.nrrd_raw.specs.Names.{sample_view, sizes_view}
@@ -105,7 +104,7 @@ states-same s d z r b texts text e h = record {
   counts = reads_same lines.sizes_of (field_name Sizes) texts text _ h.begun (e Sizes) h.counts;
   counts_line = counts_same z texts text h.begun h.counts_line;
   encoding = reads_same raw_of (field_name Encoding) texts text _ h.begun (e Encoding) h.encoding;
-  order = reads_same lines.big_endian_of (field_name Endian) texts text _ h.begun (e Endian) h.order
+  order = reads_same lines.big_endian_of (field_name Endian) texts text _ h.begun (e Endian) h.order;
 }
 
 -- ---- a line that states a field
@@ -123,7 +122,7 @@ states-type s d z r b texts text v e x h = record {
   counts = reads_same lines.sizes_of (field_name Sizes) texts text _ h.begun (given SampleType text v Sizes e) h.counts;
   counts_line = counts_same z texts text h.begun h.counts_line;
   encoding = reads_same raw_of (field_name Encoding) texts text _ h.begun (given SampleType text v Encoding e) h.encoding;
-  order = reads_same lines.big_endian_of (field_name Endian) texts text _ h.begun (given SampleType text v Endian e) h.order
+  order = reads_same lines.big_endian_of (field_name Endian) texts text _ h.begun (given SampleType text v Endian e) h.order;
 }
 
 pub states-dimension : (s : Option Sample) (d : ℕ) (z : Option (counted.Sizes × ℕ)) (r : Bool) (b : Option Bool) (texts : List (List ℕ)) (text v : List ℕ)
@@ -135,7 +134,7 @@ states-dimension s d z r b texts text v e x h = record {
   counts = reads_same lines.sizes_of (field_name Sizes) texts text _ h.begun (given Dimension text v Sizes e) h.counts;
   counts_line = counts_same z texts text h.begun h.counts_line;
   encoding = reads_same raw_of (field_name Encoding) texts text _ h.begun (given Dimension text v Encoding e) h.encoding;
-  order = reads_same lines.big_endian_of (field_name Endian) texts text _ h.begun (given Dimension text v Endian e) h.order
+  order = reads_same lines.big_endian_of (field_name Endian) texts text _ h.begun (given Dimension text v Endian e) h.order;
 }
 
 pub states-sizes : (s : Option Sample) (d : Option ℕ) (z : counted.Sizes) (n : ℕ) (r : Bool) (b : Option Bool) (texts : List (List ℕ)) (text v : List ℕ)
@@ -148,7 +147,7 @@ states-sizes s d z n r b texts text v e x l h = record {
   counts = reads_new lines.sizes_of (field_name Sizes) texts text v _ h.begun (given Sizes text v Sizes e) h.counts x;
   counts_line = (line_new (field_name Sizes) texts text v h.begun (given Sizes text v Sizes e) h.counts ∙ sym l, omega (arith, length-append texts (text ∷ []), l));
   encoding = reads_same raw_of (field_name Encoding) texts text _ h.begun (given Sizes text v Encoding e) h.encoding;
-  order = reads_same lines.big_endian_of (field_name Endian) texts text _ h.begun (given Sizes text v Endian e) h.order
+  order = reads_same lines.big_endian_of (field_name Endian) texts text _ h.begun (given Sizes text v Endian e) h.order;
 }
 
 pub states-encoding : (s : Option Sample) (d : Option ℕ) (z : Option (counted.Sizes × ℕ)) (b : Option Bool) (texts : List (List ℕ)) (text v : List ℕ)
@@ -160,7 +159,7 @@ states-encoding s d z b texts text v e x h = record {
   counts = reads_same lines.sizes_of (field_name Sizes) texts text _ h.begun (given Encoding text v Sizes e) h.counts;
   counts_line = counts_same z texts text h.begun h.counts_line;
   encoding = reads_new raw_of (field_name Encoding) texts text v true h.begun (given Encoding text v Encoding e) h.encoding (ap raw_view x);
-  order = reads_same lines.big_endian_of (field_name Endian) texts text _ h.begun (given Encoding text v Endian e) h.order
+  order = reads_same lines.big_endian_of (field_name Endian) texts text _ h.begun (given Encoding text v Endian e) h.order;
 }
 
 pub states-endian : (s : Option Sample) (d : Option ℕ) (z : Option (counted.Sizes × ℕ)) (r : Bool) (b : Bool) (texts : List (List ℕ)) (text v : List ℕ)
@@ -172,7 +171,7 @@ states-endian s d z r b texts text v e x h = record {
   counts = reads_same lines.sizes_of (field_name Sizes) texts text _ h.begun (given Endian text v Sizes e) h.counts;
   counts_line = counts_same z texts text h.begun h.counts_line;
   encoding = reads_same raw_of (field_name Encoding) texts text _ h.begun (given Endian text v Encoding e) h.encoding;
-  order = reads_new lines.big_endian_of (field_name Endian) texts text v _ h.begun (given Endian text v Endian e) h.order x
+  order = reads_new lines.big_endian_of (field_name Endian) texts text v _ h.begun (given Endian text v Endian e) h.order x;
 }
 
 -- ---- the same from a field that is not there yet

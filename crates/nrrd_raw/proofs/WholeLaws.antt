@@ -1,6 +1,6 @@
 -- The header as a whole: a field that is missing, the number of sizes, and the header that the lines spell.
-use Rattle.std.proofs.Common.{◌≡◌, ◌⊎◌, inl, inr, ℕ, ◌+◌, ◌<◌, ◌≤◌, Bool, true, false, not, List, [], ◌∷◌, map, length, take, drop, Option, Some, None, unwrap_or, refl, sym, ap, ◌∙◌, subst, arith}
-use Rattle.std.specs.Prelude.{◌&&◌, ◌||◌, ◌==◌, nat_lt, is_some, IsTrue, slice_index_or, if◌then◌else◌}
+use Rattle.std.proofs.Common.{◌≡◌, ◌⊎◌, inl, inr, ℕ, Bool, true, false, not, List, [], ◌∷◌, length, take, drop, Option, Some, None, unwrap_or, refl, sym, ap, ◌∙◌, subst, arith}
+use Rattle.std.specs.Prelude.{◌&&◌, ◌==◌, nat_lt, is_some, IsTrue, slice_index_or, if◌then◌else◌}
 use Rattle.std.specs.List.{AllPass}
 use Rattle.std.specs.Option.{option_map_or}
 use Rattle.std.proofs.lemmas.Bool.{false≢true}
@@ -13,9 +13,9 @@ use Rattle.iso_model.specs.GridFile.{SpellHeader, is_sound_line}
 use Rattle.iso_model.specs.GridFaults.{GridFault, missing_fault, missing_field, count_fault, wrong_sizes, line_of, is_needed, stated_sample, first_value}
 use Rattle.nrrd_raw.specs.declared.values.Sample.{Sample}
 use Rattle.nrrd_raw.specs.declared.values.Sizes as counted
-use Rattle.nrrd_raw.specs.Shapes.{HasShape, axes-stated, is_width}
+use Rattle.nrrd_raw.specs.Shapes.{axes-stated, is_width}
 use Rattle.nrrd_raw.specs.Names.{sample_view, sizes_view}
-use Rattle.nrrd_raw.specs.States.{StatesValues, raw_of, whole_fault}
+use Rattle.nrrd_raw.specs.States.{StatesValues, whole_fault}
 
 -- ---- missing fields
 
@@ -155,5 +155,5 @@ header-spelled s d z n b texts big h o e g between first =
       dimension = (h.axes.0, h.axes.1, h.axes.2 ∙ ap Some (sym len));
       sizes = (h.counts.0, h.counts.1, h.counts.2 ∙ ap (λ k. Some (take k z.places)) same);
       encoding = (h.encoding.0, h.encoding.1, raw_is (is_raw h.encoding.0) h.encoding.2);
-      endian = order_is s d (z, n) b texts big h o g
+      endian = order_is s d (z, n) b texts big h o g;
     }

@@ -1,6 +1,4 @@
 -- What a line says, and how its parts are found.
-use Rattle.std.specs.Prelude.{◌≡◌, ℕ, ◌==◌, ◌-◌, Bool, nat_eq, List, length, take, drop, slice_index, if◌then◌else◌}
-use Rattle.std.specs.List.{before_first}
 use Rattle.std.specs.Str.{str_to_ascii_lowercase}
 use Rattle.iso_model.specs.HeaderLines as lines
 use Rattle.nrrd_raw.specs.declared.content.Content.{Content}

@@ -2,7 +2,7 @@
 use Rattle.std.specs.Prelude.{◌≡◌, ℕ, Bool, true, false, ⊤}
 use Rattle.iso_base.specs.Faults.{Rose}
 use Rattle.nrrd_raw.specs.declared.faults.GridFault.{GridFault}
-use Rattle.nrrd_raw.specs.declared.faults.GridFault.TheVariants.{Magic, HeaderLong, HeaderEnd, Line, Repeated, SampleType, Dimension, Sizes, Encoding, Endian, Skip, Detached, Missing, TooLarge, DataShort, Trailing, Shelf, Memory}
+use Rattle.nrrd_raw.specs.declared.faults.GridFault.TheVariants.{TooLarge, DataShort, Trailing, Shelf, Memory}
 
 -- a fault of the shelf comes only where its count rose, and holds the count after the call
 abbrev pub BlamesShelf : ℕ → ℕ → GridFault → Type 0

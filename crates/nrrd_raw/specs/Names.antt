@@ -1,6 +1,5 @@
 -- The words of a header, as the code reads them.
-use Rattle.std.specs.Prelude.{◌≡◌, ℕ, Bool, true, false, List, [], ◌∷◌, codes, take, Option}
-use Rattle.std.specs.Option.{option_map}
+use Rattle.std.specs.Prelude.{◌≡◌, ℕ, true, false, List, [], ◌∷◌, codes, take}
 use Rattle.iso_model.specs.declared.Field.{Field}
 use Rattle.iso_model.specs.Orders.{same_list}
 use Rattle.iso_model.specs.HeaderLines as lines

@@ -1,5 +1,5 @@
 -- What the lines of a header state so far.
-use Rattle.std.specs.Prelude.{◌≡◌, ℕ, ◌+◌, ◌≤◌, ◌++◌, map, Bool, true, false, List, [], ◌∷◌, length, Option, Some, None, IfSome, is_some, if◌then◌else◌}
+use Rattle.std.specs.Prelude.{◌≡◌, ℕ, ◌+◌, ◌≤◌, ◌++◌, map, Bool, true, List, [], ◌∷◌, length, Option, Some, None, IfSome, is_some, if◌then◌else◌}
 use Rattle.std.specs.Option.{option_map}
 use Rattle.iso_model.specs.declared.Field.{Field}
 use Rattle.iso_model.specs.declared.Field.TheVariants.{SampleType, Dimension, Sizes, Encoding, Endian}

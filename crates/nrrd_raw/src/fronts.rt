@@ -1,6 +1,6 @@
 //! The bytes of a header, as a shelf gives them.
 
-ghost use Rattle.std.specs.Prelude.{◌≡◌, ◌≤◌, [], length, IfErr, OnOk, IsTrue, IsFalse};
+ghost use Rattle.std.specs.Prelude.{◌≡◌, ◌<◌, ◌≤◌, [], length, IfErr, OnOk, IsTrue, IsFalse};
 ghost use Rattle.std.specs.Io.KnownBytes.{Consumes};
 ghost use Rattle.nrrd_raw.specs.Faults.{BlamesShelf, is_header_fault, is_shelf_fault};
 ghost use Rattle.nrrd_raw.specs.Taken.{TakesAtMost};
@@ -27,6 +27,7 @@ pub(crate) fn take_front<S: Shelf>(
     ensures causes { IfErr result (λ fault. IsTrue (is_header_fault fault)) }
     ensures taken { TakesAtMost 65536 (S.rest shelf.old) (S.rest shelf.new) }
     ensures came { OnOk result (Consumes (S.rest shelf.old) (S.rest shelf.new) front.new.items) }
+    ensures some { OnOk result (0 < length front.new.items) }
 {
     while front.len() < HEADER_LIMIT {
         let Some(byte) = take_byte(shelf)? else {

@@ -122,7 +122,14 @@ fn take_samples<S: Shelf>(
     let mut samples = Vec::new(alloc);
     'pieces: while samples.len() < count {
         let more = (PIECE / width).min(count - samples.len());
-        take_piece(shelf, header, &mut piece[..more * width], &mut samples, more, count)?;
+        take_piece(
+            shelf,
+            header,
+            &mut piece[..more * width],
+            &mut samples,
+            more,
+            count,
+        )?;
     }
     match take_byte(shelf)? {
         Some(_) => Err(GridFault::Trailing),

@@ -1,4 +1,4 @@
-use Rattle.std.proofs.Common.{◌≡◌, ℕ, ◌<◌, nat_eq, true, slice_index, length, arith, rules, sym}
+use Rattle.std.proofs.Common.{◌≡◌, nat_eq, true, slice_index, length, arith, sym}
 use Rattle.std.proofs.lemmas.Bool.Decides.{nat_tests}
 use Rattle.std.proofs.lemmas.List.Sums.{position_or_len_is}
 use Rattle.nrrd_raw.proofs.content.colon_in.Goals as goal

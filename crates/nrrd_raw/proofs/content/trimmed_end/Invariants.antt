@@ -5,7 +5,7 @@ use Rattle.nrrd_raw.proofs.content.trimmed_end.Given as goal
 abbrev pub invariant-loop-end : goal.invariant-loop-end
 invariant-loop-end l = record {
   within : l.end ≤ length l.text;
-  blank : (k : ℕ) → l.end ≤ k → k < length l.text → is_blank (slice_index l.text k) ≡ true
+  blank : (k : ℕ) → l.end ≤ k → k < length l.text → is_blank (slice_index l.text k) ≡ true;
 }
 
 abbrev pub decreases-loop-end : goal.decreases-loop-end

@@ -6,5 +6,5 @@ use Rattle.nrrd_raw.proofs.decode.write_as.Given as goal
 abbrev pub invariant-loop-i : goal.invariant-loop-i
 invariant-loop-i g l = record {
   range : AllWithin InRange l.samples 0 l.i;
-  values : HasValues g.F.Form.value g.F.Form.WIDTH l.piece l.samples l.i
+  values : HasValues g.F.Form.value g.F.Form.WIDTH l.piece l.samples l.i;
 }

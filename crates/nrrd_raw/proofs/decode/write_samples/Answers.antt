@@ -1,4 +1,4 @@
-use Rattle.std.proofs.Common.{◌≡◌, ◌⊎◌, inl, inr, ℕ, ◌<◌, Bool, arith, sym, ap, ◌∙◌, rules, true, false}
+use Rattle.std.proofs.Common.{◌≡◌, arith, sym, ap, ◌∙◌, rules, true, false}
 use Rattle.iso_model.specs.GridFile.{Header}
 use Rattle.nrrd_raw.proofs.SampleLaws.{samples_spelled, left_four, spells-signed_8, spells-unsigned_8, spells-signed_16_big, spells-signed_16_little, spells-unsigned_16_big, spells-unsigned_16_little, spells-signed_32_big, spells-signed_32_little, spells-unsigned_32_big, spells-unsigned_32_little}
 use Rattle.nrrd_raw.proofs.decode.write_samples.Goals as goal

@@ -1,7 +1,7 @@
-use Rattle.std.proofs.Common.{◌≡◌, ◌∙◌, ℕ, ◌+◌, ◌-◌, ◌<◌, List, length, sym, subst, rules, arith}
+use Rattle.std.proofs.Common.{◌≡◌, ◌∙◌, ℕ, ◌+◌, ◌-◌, ◌<◌, length, sym, subst, arith}
 use Rattle.std.proofs.lemmas.Bool.Decides.{nat_tests}
 use Rattle.std.proofs.lemmas.Result.{err_from_is_err_and}
-use Rattle.nrrd_raw.proofs.JudgeLaws.{ReadingOf, ReadsLine, reading-begin, reading-more, reading-fault, reading-all, reading-ended, reading-done, answers-spelled, answers-cause, form_cause}
+use Rattle.nrrd_raw.proofs.JudgeLaws.{ReadingOf, reading-begin, reading-more, reading-fault, reading-all, reading-ended, reading-done, answers-spelled, answers-cause, form_cause}
 use Rattle.nrrd_raw.proofs.judge.header_of.Goals as goal
 use Rattle.nrrd_raw.proofs.judge.header_of.Goals.{else-lines-test, then-lines-test+then-is_empty}
 
@@ -11,7 +11,7 @@ lines-init c = record {
   bound = omega (arith, c.line_at-at.ensures.later);
   within = c.line_at-at.ensures.within;
   read = λ texts p f. reading-begin c.args.bytes.now texts p c.line_at-at.result.0.now c.line_at-at.result.1 c.none-stated.result f
-      (record { text_is = c.line_at-at.ensures.text; next_is = c.line_at-at.ensures.next }) c.none-stated.ensures
+      (record { text_is = c.line_at-at.ensures.text; next_is = c.line_at-at.ensures.next }) c.none-stated.ensures;
 }
 
 pub returns-in_err-stated-clause-cause : goal.returns-in_err-stated-clause-cause
@@ -39,7 +39,7 @@ lines-preserved c =
       within = c.line_at-next.ensures.within;
       read = λ texts p f. subst (λ (k : ℕ). ReadingOf texts p.lines c.args.bytes.now c.line_at-next.result.1 k c.in_ok-stated.stated) next
           (reading-more c.args.bytes.now texts p c.lines.at n c.lines.stated (c.lines.invariant.read texts p f) text c.line_at-next.result.1
-          (record { text_is = c.line_at-next.ensures.text; next_is = c.line_at-next.ensures.next }) c.lines.number c.in_ok-stated.stated some e c.in_ok-stated.ensures.kept)
+          (record { text_is = c.line_at-next.ensures.text; next_is = c.line_at-next.ensures.next }) c.lines.number c.in_ok-stated.stated some e c.in_ok-stated.ensures.kept);
     }
 
 pub returns-clause-spelled : goal.returns-clause-spelled

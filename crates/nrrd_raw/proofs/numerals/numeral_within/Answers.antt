@@ -1,4 +1,4 @@
-use Rattle.std.proofs.Common.{◌≡◌, ◌-◌, ◌+◌, ◌≤◌, true, false, slice_index, arith, rules, sym, ◌∙◌}
+use Rattle.std.proofs.Common.{◌≡◌, ◌+◌, true, false, slice_index, arith, rules, sym}
 use Rattle.std.specs.Char.{is_ascii_digit, digit_value}
 use Rattle.std.proofs.lemmas.Str.{digit_value_digit}
 use Rattle.nrrd_raw.proofs.NumeralLaws.{digits-stop, digits-more, numeral-none, value-more}
@@ -17,5 +17,5 @@ loop-at-preserved c =
     let digit : digit_value (slice_index c.args.text.now c.loop-at.at) ≡ c.from.result = omega (arith, v, c.from.ensures) in
     record {
       digits = digits-more c.args.text.now c.loop-at.at c.loop-at-test.true c.loop-at.invariant.digits d;
-      value = value-more c.args.text.now c.loop-at.at c.loop-at.value c.from.result (c.args.high + 1) c.min-value.result c.loop-at-test.true c.loop-at.invariant.value digit c.min-value.ensures
+      value = value-more c.args.text.now c.loop-at.at c.loop-at.value c.from.result (c.args.high + 1) c.min-value.result c.loop-at-test.true c.loop-at.invariant.value digit c.min-value.ensures;
     }

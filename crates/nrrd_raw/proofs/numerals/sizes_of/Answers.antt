@@ -1,8 +1,8 @@
-use Rattle.std.proofs.Common.{◌≡◌, ℕ, ◌+◌, ◌-◌, ◌<◌, ◌≤◌, List, [], ◌∷◌, length, take, drop, set, refl, arith, rules, sym, ap, ◌∙◌, subst}
+use Rattle.std.proofs.Common.{ℕ, ◌+◌, ◌<◌, ◌≤◌, List, [], ◌∷◌, set, refl, arith, ap, subst}
 use Rattle.std.proofs.lemmas.List.{drop_all}
 use Rattle.std.proofs.lemmas.List.Elements.{All-set, All-replicate}
 use Rattle.iso_model.specs.HeaderLines.{words_of}
-use Rattle.nrrd_raw.proofs.SizeLaws.{ReadsWords, ReadsWords-none, ReadsWords-more, words_of-skip, words_of-word, sizes_from-wrong, sizes_from-many, sizes_from-none, sizes_from-all, HasShape-set}
+use Rattle.nrrd_raw.proofs.SizeLaws.{ReadsWords, ReadsWords-none, ReadsWords-more, words_of-skip, words_of-word, sizes_from-wrong, sizes_from-many, sizes_from-all, HasShape-set}
 use Rattle.nrrd_raw.proofs.numerals.sizes_of.Goals as goal
 
 pub loop-at-init : goal.loop-at-init
@@ -15,7 +15,7 @@ loop-at-init c =
       within = c.word_from-at.ensures.within;
       word = c.word_from-at.ensures.word;
       read = subst (λ (rest : List (List ℕ)). ReadsWords (words_of value) rest 0 (1 ∷ 1 ∷ 1 ∷ 1 ∷ []))
-          (words_of-skip value 0 at (omega arith) c.word_from-at.ensures.within c.word_from-at.ensures.blank) (ReadsWords-none (words_of value) (1 ∷ 1 ∷ 1 ∷ 1 ∷ []))
+          (words_of-skip value 0 at (omega arith) c.word_from-at.ensures.within c.word_from-at.ensures.blank) (ReadsWords-none (words_of value) (1 ∷ 1 ∷ 1 ∷ 1 ∷ []));
     }
 
 pub returns-in_err-size : goal.returns-in_err-size
@@ -51,7 +51,7 @@ loop-at-preserved c =
       sized = All-set (λ n. (1 ≤ n) × (n ≤ 4294967295)) c.loop-at.places c.from.result size c.in_ok-size.ensures.within c.loop-at.invariant.sized;
       within = n.within;
       word = n.word;
-      read = rw c.from.ensures (subst (λ (rest : List (List ℕ)). ReadsWords (words_of value) rest (count + 1) (set c.loop-at.places count size)) skip read)
+      read = rw c.from.ensures (subst (λ (rest : List (List ℕ)). ReadsWords (words_of value) rest (count + 1) (set c.loop-at.places count size)) skip read);
     }
 
 pub returns-else-count-eq0 : goal.returns-else-count-eq0

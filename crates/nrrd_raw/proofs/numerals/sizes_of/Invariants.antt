@@ -10,7 +10,7 @@ invariant-loop-at l = record {
   sized : AreSizes l.places;
   within : l.at ≤ length l.value;
   word : l.at < length l.value → is_blank (slice_index l.value l.at) ≡ false;
-  read : ReadsWords (words_of l.value) (words_of (drop l.at l.value)) l.count l.places
+  read : ReadsWords (words_of l.value) (words_of (drop l.at l.value)) l.count l.places;
 }
 
 abbrev pub decreases-loop-at : goal.decreases-loop-at

@@ -1,4 +1,4 @@
-use Rattle.std.proofs.Common.{◌≡◌, ◌+◌, ◌-◌, ◌≤◌, ◌++◌, length, take, arith, rules, subst, sym, List, ℕ}
+use Rattle.std.proofs.Common.{◌-◌, length, arith, rules, subst, sym, List, ℕ}
 use Rattle.std.proofs.KnownBytes.{Consumes-trans}
 use Rattle.std.specs.Io.KnownBytes.{Consumes}
 use Rattle.nrrd_raw.proofs.TakenLaws.{take-filled}

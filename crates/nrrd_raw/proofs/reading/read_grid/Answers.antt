@@ -1,4 +1,4 @@
-use Rattle.std.proofs.Common.{◌≡◌, ◌+◌, ◌*◌, ◌^◌, ◌<◌, ◌≤◌, inl, inr, arith, rules, subst, sym, ap, Option, List, ℕ}
+use Rattle.std.proofs.Common.{◌+◌, ◌^◌, inl, inr, arith, subst, sym, ap, Option, List, ℕ}
 use Rattle.std.proofs.lemmas.Bool.{cases_lt}
 use Rattle.iso_model.specs.Values.{product}
 use Rattle.nrrd_raw.specs.Taken.{TakesAtMost}

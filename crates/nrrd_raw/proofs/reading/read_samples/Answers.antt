@@ -1,6 +1,6 @@
-use Rattle.std.proofs.Common.{◌≡◌, ◌<◌, ◌≤◌, ◌^◌, arith, rules, sym, ap, ◌∙◌}
+use Rattle.std.proofs.Common.{◌≤◌, ◌^◌, arith}
 use Rattle.std.proofs.lemmas.Result.{err_from_is_err_and}
-use Rattle.nrrd_raw.proofs.ReadLaws.{HasSampleFault-too_large, HasSampleFault-told, SpellsSamples-told}
+use Rattle.nrrd_raw.proofs.ReadLaws.{HasSampleFault-too_large, HasSampleFault-told}
 use Rattle.nrrd_raw.proofs.reading.read_samples.Goals as goal
 
 pub returns-then-count-gt-SAMPLE_LIMIT-clause-cause :

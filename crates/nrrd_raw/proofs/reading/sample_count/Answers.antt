@@ -1,8 +1,8 @@
-use Rattle.std.proofs.Common.{◌≡◌, ◌*◌, ◌^◌, ◌<◌, ◌≤◌, length, take, arith, rules, sym, ap, ◌∙◌, subst, List, ℕ}
+use Rattle.std.proofs.Common.{◌≤◌, length, rules, sym, ap, ◌∙◌, subst, List, ℕ}
 use Rattle.iso_model.specs.Values.{product}
 use Rattle.iso_model.specs.GridFile.{Header}
 use Rattle.nrrd_raw.specs.Shapes.{AreSizes}
-use Rattle.nrrd_raw.proofs.Counts.{counts, CountsPlaces}
+use Rattle.nrrd_raw.proofs.Counts.{counts}
 use Rattle.nrrd_raw.proofs.reading.sample_count.Goals as goal
 
 pub overflow_mul-result : goal.overflow_mul-result

@@ -1,10 +1,10 @@
-use Rattle.std.proofs.Common.{◌≡◌, ℕ, ◌+◌, ◌*◌, ◌<◌, ◌≤◌, ◌∷◌, [], length, take, arith, rules, sym, ap, ◌∙◌, vec_len}
+use Rattle.std.proofs.Common.{◌≡◌, ◌+◌, ◌*◌, ◌≤◌, ◌∷◌, [], length, arith, rules, ap, ◌∙◌, vec_len}
 use Rattle.std.proofs.Math.Nat.{mul-le-mul_right}
 use Rattle.std.proofs.lemmas.List.{length-take}
 use Rattle.std.proofs.lemmas.Result.{err_from_is_err_and}
 use Rattle.std.specs.Io.KnownBytes.{Consumes}
 use Rattle.iso_model.specs.GridFile.{Header}
-use Rattle.nrrd_raw.proofs.TakenLaws.{TakesAtMost-then, TakesAtMost-consumed, TakesAtMost-more}
+use Rattle.nrrd_raw.proofs.TakenLaws.{TakesAtMost-then, TakesAtMost-consumed}
 use Rattle.nrrd_raw.proofs.ReadLaws.{ReadsSamples-more, IsDataFault-cut, IsDataFault-trailing}
 use Rattle.nrrd_raw.proofs.reading.take_samples.Goals as goal
 
@@ -14,7 +14,7 @@ pieces-preserved g c =
     let len = e.len in
     let room : c.min-more.result + vec_len c.pieces.samples ≤ c.args.count = omega (arith, c.min-more.ensures, c.len-in-pieces.ensures, c.pieces.invariant.few) in
     let piece : length c.take_piece.new.piece ≤ c.min-more.result * c.from-width.result =
-        omega (arith, c.take_piece.auto.piece, length-take (c.min-more.result * c.from-width.result) c.pieces.piece) in
+    omega (arith, c.take_piece.auto.piece, length-take (c.min-more.result * c.from-width.result) c.pieces.piece) in
     record {
       later = omega (arith, e.faults, c.pieces.invariant.later);
       stays = e.stay ∙ c.pieces.invariant.stays;
@@ -23,7 +23,7 @@ pieces-preserved g c =
       range = e.range c.pieces.invariant.range;
       taken = TakesAtMost-then (vec_len c.pieces.samples * c.from-width.result) (length c.take_piece.new.piece) (vec_len c.take_piece.new.samples * c.from-width.result) _ _ _
           c.pieces.invariant.taken e.taken (rw len (omega (arith, piece)));
-      read = ReadsSamples-more c.args.header.now _ _ _ (vec_len c.pieces.samples) c.min-more.result (vec_len c.take_piece.new.samples) _ _ len c.pieces.invariant.read e.read
+      read = ReadsSamples-more c.args.header.now _ _ _ (vec_len c.pieces.samples) c.min-more.result (vec_len c.take_piece.new.samples) _ _ len c.pieces.invariant.read e.read;
     }
 
 pub returns-in_err-take_piece-clause-taken : goal.returns-in_err-take_piece-clause-taken
@@ -32,7 +32,7 @@ returns-in_err-take_piece-clause-taken g c =
     let room : c.min-more.result + vec_len c.pieces.samples ≤ c.args.count = omega (arith, c.min-more.ensures, c.len-in-pieces.ensures, c.pieces.invariant.few) in
     let most : (c.min-more.result + vec_len c.pieces.samples) * c.from-width.result ≤ c.args.count * c.from-width.result = mul-le-mul_right c.from-width.result room in
     let piece : length c.take_piece.new.piece ≤ c.min-more.result * c.from-width.result =
-        omega (arith, c.take_piece.auto.piece, length-take (c.min-more.result * c.from-width.result) c.pieces.piece) in
+    omega (arith, c.take_piece.auto.piece, length-take (c.min-more.result * c.from-width.result) c.pieces.piece) in
     TakesAtMost-then (vec_len c.pieces.samples * c.from-width.result) (length c.take_piece.new.piece) (c.args.count * c.args.header.now.width + 1) _ _ _
     c.pieces.invariant.taken c.take_piece.ensures.taken (rw (← w) (omega (arith, piece, most)))
 

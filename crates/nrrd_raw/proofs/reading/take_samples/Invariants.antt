@@ -1,4 +1,4 @@
-use Rattle.std.proofs.Common.{◌≡◌, ℕ, ◌≤◌, ◌-◌, ◌*◌, List, length, vec_len, All}
+use Rattle.std.proofs.Common.{◌≡◌, ◌≤◌, ◌-◌, ◌*◌, vec_len, All}
 use Rattle.nrrd_raw.specs.Causes.{ReadsSamples}
 use Rattle.nrrd_raw.specs.Shapes.{InRange}
 use Rattle.nrrd_raw.specs.Taken.{TakesAtMost}
@@ -12,7 +12,7 @@ invariant-pieces g l = record {
   few : vec_len l.samples ≤ l.count;
   range : All InRange l.samples.items;
   taken : TakesAtMost (vec_len l.samples * l.width) (g.S.Shelf.rest l.initial.shelf) (g.S.Shelf.rest l.shelf);
-  read : ReadsSamples l.header (g.S.Shelf.rest l.initial.shelf) (g.S.Shelf.rest l.shelf) (vec_len l.samples) l.samples.items
+  read : ReadsSamples l.header (g.S.Shelf.rest l.initial.shelf) (g.S.Shelf.rest l.shelf) (vec_len l.samples) l.samples.items;
 }
 
 abbrev pub decreases-pieces : goal.decreases-pieces

@@ -1,8 +1,7 @@
-use Rattle.std.proofs.Common.{◌≡◌, ℕ, List, false, sym, ap, ◌∙◌}
+use Rattle.std.proofs.Common.{ℕ, List, sym, ap, ◌∙◌}
 use Rattle.std.specs.List.{list_any}
-use Rattle.std.specs.Str.{str_to_ascii_lowercase}
 use Rattle.iso_model.specs.Orders.{same_list}
-use Rattle.iso_model.specs.HeaderLines.{skip_names, data_file_names, is_among}
+use Rattle.iso_model.specs.HeaderLines.{skip_names, data_file_names}
 use Rattle.nrrd_raw.proofs.WordLaws.{lower-lower}
 use Rattle.nrrd_raw.proofs.words.key_of.Goals as goal
 

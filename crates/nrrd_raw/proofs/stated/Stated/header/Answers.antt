@@ -1,4 +1,4 @@
-use Rattle.std.proofs.Common.{◌≡◌, ◌∙◌, ◌==◌, Bool, true, refl, sym, rules, arith}
+use Rattle.std.proofs.Common.{◌≡◌, ◌∙◌, ◌==◌, true, refl, sym, rules, arith}
 use Rattle.std.proofs.lemmas.Bool.Decides.{nat_tests}
 use Rattle.nrrd_raw.proofs.WholeLaws.{header-spelled, states-at}
 use Rattle.nrrd_raw.proofs.stated.Stated.header.Goals as goal

@@ -1,4 +1,4 @@
-use Rattle.std.proofs.Common.{◌≡◌, ◌∙◌, sym, ap, rules, arith}
+use Rattle.std.proofs.Common.{rules}
 use Rattle.nrrd_raw.proofs.StatedLaws.{adds-endian}
 use Rattle.nrrd_raw.proofs.stated.Stated.with_endian.Goals as goal
 

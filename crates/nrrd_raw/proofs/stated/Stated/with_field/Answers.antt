@@ -1,6 +1,6 @@
-use Rattle.std.proofs.Common.{◌≡◌, ◌∙◌, ℕ, List, true, sym, ap, subst, rules, arith}
+use Rattle.std.proofs.Common.{◌∙◌, ℕ, List, sym, subst}
 use Rattle.std.specs.Prelude.{IfOk, IfErr}
-use Rattle.iso_model.specs.HeaderLines.{named_field, is_zero}
+use Rattle.iso_model.specs.HeaderLines.{named_field}
 use Rattle.nrrd_raw.specs.States.{AddsLine, HasCause}
 use Rattle.nrrd_raw.proofs.WordLaws.{lower-lower}
 use Rattle.nrrd_raw.proofs.StatedLaws.{adds-skip, adds-other}

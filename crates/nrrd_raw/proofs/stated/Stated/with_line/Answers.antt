@@ -1,7 +1,7 @@
-use Rattle.std.proofs.Common.{◌≡◌, ◌∙◌, ℕ, List, sym, ap, subst, rules, arith}
-use Rattle.std.specs.Prelude.{IfOk, IfErr}
+use Rattle.std.proofs.Common.{subst}
+use Rattle.std.specs.Prelude.{IfOk}
 use Rattle.iso_model.specs.HeaderLines.{Content}
-use Rattle.nrrd_raw.specs.States.{AddsLine, HasCause}
+use Rattle.nrrd_raw.specs.States.{AddsLine}
 use Rattle.nrrd_raw.proofs.StatedLaws.{adds-passed}
 use Rattle.nrrd_raw.proofs.stated.Stated.with_line.Goals as goal
 

@@ -1,4 +1,4 @@
-use Rattle.std.proofs.Common.{◌≡◌, sym, subst}
+use Rattle.std.proofs.Common.{sym, subst}
 use Rattle.std.specs.Prelude.{IfOk}
 use Rattle.iso_model.specs.declared.Field.{Field}
 use Rattle.iso_model.specs.HeaderLines.{named_field, field_name}
