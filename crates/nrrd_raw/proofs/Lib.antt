@@ -1,10 +1,14 @@
 pub mod ContentLaws
+pub mod FirstLaws
 pub mod Counts
+pub mod FrontLaws
 pub mod JudgeLaws
 pub mod LineLaws
+pub mod MagicLaws
 pub mod NumeralLaws
 pub mod PlaceLaws
 pub mod ReadLaws
+pub mod ReadingLaws
 pub mod SampleLaws
 pub mod SizeLaws
 pub mod StatedLaws

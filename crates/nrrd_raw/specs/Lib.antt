@@ -3,6 +3,8 @@ pub mod Contents
 pub mod Ends
 pub mod Faults
 pub mod Forms
+pub mod Fronts
+pub mod Headers
 pub mod Names
 pub mod Shapes
 pub mod States

@@ -1,17 +1,28 @@
 //! The bytes of a header, as a shelf gives them.
 
-ghost use Rattle.std.specs.Prelude.{◌≡◌, ◌<◌, ◌≤◌, [], length, IfErr, OnOk, IsTrue, IsFalse};
+ghost use Rattle.std.specs.Prelude.{◌≡◌, ℕ, ◌+◌, ◌<◌, ◌≤◌, ◌==◌, [], length, IfSome, IfErr, OnOk, IsTrue, IsFalse};
 ghost use Rattle.std.specs.Io.KnownBytes.{Consumes};
+ghost use Rattle.arrayvec.specs.ArrayVec.{array_vec_len};
+ghost use Rattle.iso_model.specs.GridFaults.{HasHeaderFault};
+ghost use Rattle.nrrd_raw.specs.Causes.{cause_of};
+ghost use Rattle.nrrd_raw.specs.Ends as ends;
 ghost use Rattle.nrrd_raw.specs.Faults.{BlamesShelf, is_header_fault, is_shelf_fault};
+ghost use Rattle.nrrd_raw.specs.Fronts.{HasFront, IsFront, IsNoBeginning, IsUnfit, TakesFitting, FitsFirst};
 ghost use Rattle.nrrd_raw.specs.Taken.{TakesAtMost};
 
 use crate::faults::GridFault;
+use crate::lines::without_return;
 use crate::pieces::take_byte;
 use arrayvec::ArrayVec;
 use iso_base::Shelf;
 
 /// The most bytes that a header has, its empty line included.
 pub(crate) const HEADER_LIMIT: usize = 65536;
+
+/// The least and the greatest first eight bytes of a file.
+const LEAST: [u8; 8] = [b'N', b'R', b'R', b'D', b'0', b'0', b'0', b'1'];
+
+const GREATEST: [u8; 8] = [b'N', b'R', b'R', b'D', b'0', b'0', b'0', b'5'];
 
 /// Takes the bytes of a header, one at a time, up to the end of its empty line.
 pub(crate) fn take_front<S: Shelf>(
@@ -27,66 +38,95 @@ pub(crate) fn take_front<S: Shelf>(
     ensures causes { IfErr result (λ fault. IsTrue (is_header_fault fault)) }
     ensures taken { TakesAtMost 65536 (S.rest shelf.old) (S.rest shelf.new) }
     ensures came { OnOk result (Consumes (S.rest shelf.old) (S.rest shelf.new) front.new.items) }
-    ensures some { OnOk result (0 < length front.new.items) }
+    ensures whole { OnOk result (IsFront front.new.items) }
+    ensures cause { IfSome (S.rest shelf.old) (λ bytes. IfErr result (λ fault. IfSome (cause_of fault) (HasHeaderFault bytes))) }
 {
-    while front.len() < HEADER_LIMIT {
+    take_first_line(shelf, front)?;
+    let mut start = front.len();
+    'bytes: while front.len() < HEADER_LIMIT {
         let Some(byte) = take_byte(shelf)? else {
-            return Err(end_fault(front));
+            return Err(GridFault::HeaderEnd);
         };
-        front.push(byte);
-        if !may_begin(front) {
-            return Err(GridFault::Magic);
-        }
-        if has_end(front) {
-            return Ok(());
+        if byte == b'\n' {
+            let ends = is_empty_line(&front[start..]);
+            front.push(byte);
+            if ends {
+                return Ok(());
+            }
+            start = front.len();
+        } else {
+            front.push(byte);
         }
     }
     Err(GridFault::HeaderLong)
 }
 
-/// The file ends with these bytes, and they hold no end of a header.
-fn end_fault(front: &[u8]) -> GridFault
-    ensures causes { IsTrue (is_header_fault result) }
-    ensures form { IsFalse (is_shelf_fault result) }
+/// A line with these bytes before its LF is empty.
+fn is_empty_line(text: &[u8]) -> bool
+    ensures { result ≡ (length (ends.without_return text.now) == 0) }
 {
-    if has_first_line(front) {
-        GridFault::HeaderEnd
-    } else {
-        GridFault::Magic
+    without_return(text).is_empty()
+}
+
+/// Takes the first line with its end.
+fn take_first_line<S: Shelf>(
+    shelf: &mut S,
+    front: &mut ArrayVec<u8, HEADER_LIMIT>,
+) -> Result<(), GridFault>
+    requires { front.old.items ≡ [] }
+    ensures faults { S.faults shelf.old ≤ S.faults shelf.new }
+    ensures stay { S.files shelf.new ≡ S.files shelf.old }
+    ensures sound_stays { S.sound shelf.old → S.sound shelf.new }
+    ensures blames { IfErr result (BlamesShelf (S.faults shelf.old) (S.faults shelf.new)) }
+    ensures sound { S.sound shelf.old → IfErr result (λ fault. IsFalse (is_shelf_fault fault)) }
+    ensures causes { IfErr result (λ fault. IsTrue (is_header_fault fault)) }
+    ensures taken { TakesAtMost 10 (S.rest shelf.old) (S.rest shelf.new) }
+    ensures came { OnOk result (Consumes (S.rest shelf.old) (S.rest shelf.new) front.new.items) }
+    ensures short { OnOk result (length front.new.items ≤ 10) }
+    ensures first { OnOk result (HasFront front.new.items (length front.new.items)) }
+    ensures cause { IfErr result (IsNoBeginning (S.rest shelf.old)) }
+{
+    'places: for place in 0..8 {
+        take_fitting(shelf, front, LEAST[place], GREATEST[place])?;
     }
-}
-
-/// Bytes without the last one may begin a file; so may all of them.
-fn may_begin(front: &[u8]) -> bool {
-    match front {
-        [] => true,
-        [.., last] => may_stand(front.len() - 1, *last) || has_first_line(front),
+    let Some(byte) = take_byte(shelf)? else {
+        return Err(GridFault::Magic);
+    };
+    if byte == b'\n' {
+        front.push(byte);
+        return Ok(());
     }
-}
-
-/// The byte may stand at this place of the first line.
-fn may_stand(place: usize, byte: u8) -> bool {
-    match place {
-        0 => byte == b'N',
-        1 | 2 => byte == b'R',
-        3 => byte == b'D',
-        4..7 => byte == b'0',
-        7 => b'1' <= byte && byte <= b'5',
-        8 => byte == b'\r',
-        _ => false,
+    if byte != b'\r' {
+        return Err(GridFault::Magic);
     }
+    front.push(byte);
+    take_fitting(shelf, front, b'\n', b'\n')
 }
 
-/// The bytes begin with `NRRD0001` to `NRRD0005` and a line end, given that each front of them may begin a file.
-fn has_first_line(front: &[u8]) -> bool {
-    (front.len() > 8 && front[8] == b'\n') || (front.len() > 9 && front[9] == b'\n')
-}
-
-/// The bytes end with an empty line.
-fn has_end(front: &[u8]) -> bool {
-    match front {
-        [.., b'\n', b'\n'] => true,
-        [.., b'\n', b'\r', b'\n'] => true,
-        _ => false,
+/// Takes a byte from `least` to `greatest`.
+fn take_fitting<S: Shelf>(
+    shelf: &mut S,
+    front: &mut ArrayVec<u8, HEADER_LIMIT>,
+    least: u8,
+    greatest: u8,
+) -> Result<(), GridFault>
+    requires room { array_vec_len front.old < 65536 }
+    requires some { 1 ≤ least }
+    ensures faults { S.faults shelf.old ≤ S.faults shelf.new }
+    ensures stay { S.files shelf.new ≡ S.files shelf.old }
+    ensures sound_stays { S.sound shelf.old → S.sound shelf.new }
+    ensures blames { IfErr result (BlamesShelf (S.faults shelf.old) (S.faults shelf.new)) }
+    ensures sound { S.sound shelf.old → IfErr result (λ fault. IsFalse (is_shelf_fault fault)) }
+    ensures causes { IfErr result (λ fault. IsTrue (is_header_fault fault)) }
+    ensures taken { TakesAtMost 1 (S.rest shelf.old) (S.rest shelf.new) }
+    ensures fitting { OnOk result (TakesFitting (S.rest shelf.old) (S.rest shelf.new) least greatest front.old.items front.new.items) }
+    ensures unfit { IfErr result (IsUnfit (S.rest shelf.old) least greatest) }
+{
+    match take_byte(shelf)? {
+        Some(byte) if least <= byte && byte <= greatest => {
+            front.push(byte);
+            Ok(())
+        }
+        _ => Err(GridFault::Magic),
     }
 }

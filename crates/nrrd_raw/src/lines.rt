@@ -33,7 +33,7 @@ fn feed_from(bytes: &[u8], from: usize) -> usize
 }
 
 /// The text without a CR at its end.
-fn without_return(text: &[u8]) -> &[u8]
+pub(crate) fn without_return(text: &[u8]) -> &[u8]
     ensures { result.now ≡ ends.without_return text.now }
 {
     if !text.is_empty() && text[text.len() - 1] == b'\r' {

@@ -2,11 +2,12 @@
 
 ghost use Rattle.std.specs.Prelude.{◌≡◌, ℕ, ◌++◌, IfSome, ◌+◌, ◌*◌, ◌≤◌, ◌<◌, ◌^◌, Result, Ok, Err, OnErr, IfOk, IfErr, OnOk, IsTrue, IsFalse, None, Some, All, length, vec_len};
 ghost use Rattle.iso_model.specs.Values.{IsRegularGrid, product};
-ghost use Rattle.iso_model.specs.GridFile.{IsRegularHeader, SpellsSamples, sample_limit, samples_of};
-ghost use Rattle.iso_model.specs.GridFaults.{HasSampleFault};
+ghost use Rattle.iso_model.specs.GridFile.{IsRegularHeader, SpellsGrid, SpellsSamples, sample_limit, samples_of};
+ghost use Rattle.iso_model.specs.GridFaults.{HasGridFault, HasHeaderFault, HasSampleFault};
 ghost use Rattle.std.specs.Io.KnownBytes.{IsAtEnd};
 ghost use Rattle.nrrd_raw.specs.Causes.{ReadsSamples, ReadsMore, IsCutOff, IsDataFault, cause_of};
 ghost use Rattle.nrrd_raw.specs.Faults.{BlamesShelf, is_shelf_fault, is_header_fault, is_sample_fault, is_data_fault, is_piece_fault};
+ghost use Rattle.nrrd_raw.specs.Headers.{HeaderIsRead};
 ghost use Rattle.nrrd_raw.specs.Shapes.{InRange};
 ghost use Rattle.nrrd_raw.specs.Taken.{TakesAtMost};
 
@@ -37,6 +38,8 @@ pub fn read_header<S: Shelf>(shelf: &mut S) -> Result<Header, GridFault>
     ensures sound { S.sound shelf.old → IfErr result (λ fault. IsFalse (is_shelf_fault fault)) }
     ensures causes { IfErr result (λ fault. IsTrue (is_header_fault fault)) }
     ensures taken { TakesAtMost 65536 (S.rest shelf.old) (S.rest shelf.new) }
+    ensures read { IfOk result (HeaderIsRead (S.rest shelf.old) (S.rest shelf.new)) }
+    ensures cause { IfSome (S.rest shelf.old) (λ bytes. IfErr result (λ fault. IfSome (cause_of fault) (HasHeaderFault bytes))) }
     ensures regular { IfOk result IsRegularHeader }
 {
     let mut front = ArrayVec::new();
@@ -218,6 +221,9 @@ pub fn read_grid<S: Shelf>(alloc: Global, shelf: &mut S) -> Result<Grid, GridFau
     ensures sound_stays { S.sound shelf.old → S.sound shelf.new }
     ensures blames { IfErr result (BlamesShelf (S.faults shelf.old) (S.faults shelf.new)) }
     ensures sound { S.sound shelf.old → IfErr result (λ fault. IsFalse (is_shelf_fault fault)) }
+    ensures spelled { IfSome (S.rest shelf.old) (λ bytes. IfOk result (SpellsGrid bytes)) }
+    ensures cause { IfSome (S.rest shelf.old) (λ bytes. IfErr result (λ fault. IfSome (cause_of fault) (HasGridFault bytes))) }
+    ensures whole { OnOk result (IsAtEnd (S.rest shelf.new)) }
     ensures taken { TakesAtMost (2 ^ 29 + 65537) (S.rest shelf.old) (S.rest shelf.new) }
     ensures regular { IfOk result IsRegularGrid }
 {

@@ -3,6 +3,8 @@ use Rattle.std.proofs.lemmas.Bool.{cases_lt}
 use Rattle.iso_model.specs.Values.{product}
 use Rattle.nrrd_raw.specs.Taken.{TakesAtMost}
 use Rattle.nrrd_raw.proofs.TakenLaws.{TakesAtMost-grid, TakesAtMost-more}
+use Rattle.std.proofs.lemmas.Result.{err_from_is_err_and}
+use Rattle.nrrd_raw.proofs.ReadingLaws.{grid-read, grid-samples_fault, grid-header_fault}
 use Rattle.nrrd_raw.proofs.reading.read_grid.Goals as goal
 
 pub returns-clause-taken : goal.returns-clause-taken
@@ -14,3 +16,14 @@ returns-clause-taken g c =
           (TakesAtMost-more 65536 (2 ^ 29 + 65537) _ _ c.read_header.ensures.taken (omega arith))
       | inr few ↦ TakesAtMost-grid (product header.sizes) header.width _ _ _ c.read_header.ensures.taken c.read_samples.ensures.taken few c.in_ok-header.ensures.regular.wide
     ]
+
+pub returns-in_err-header-clause-cause : goal.returns-in_err-header-clause-cause
+returns-in_err-header-clause-cause g c =
+    let p = err_from_is_err_and c.from_residual.result c.from_residual.ensures.1 in
+    rw (p.1, p.2) (grid-header_fault (g.S.Shelf.rest c.args.shelf.now) c.in_err-header.field-0.0 c.in_err-header.ensures.cause)
+
+pub returns-clause-spelled : goal.returns-clause-spelled
+returns-clause-spelled g c = grid-read c.read_samples.result (g.S.Shelf.rest c.args.shelf.now) _ c.in_ok-header.header c.in_ok-header.ensures.read c.read_samples.ensures.spelled
+
+pub returns-clause-cause : goal.returns-clause-cause
+returns-clause-cause g c = grid-samples_fault c.read_samples.result (g.S.Shelf.rest c.args.shelf.now) _ c.in_ok-header.header c.in_ok-header.ensures.read c.read_samples.ensures.cause
