@@ -98,10 +98,10 @@ all_below Facet d front set faces old new h next a = record {
 -- ---- the last set of a chain
 
 nothing_added : (Facet : List ℕ → Type 0) (d : ℕ) (front set : List ℕ) (old : List (List ℕ)) → ((simplex : List ℕ) → GoesOn Facet d front set simplex → ⊥) → AddsPulled Facet d front set old old
-nothing_added Facet d front set old no = record {
+nothing_added Facet d front set old never = record {
   each = λ simplex. (
     λ c. inl c,
-    λ c. elim c as (λ _. Contains old simplex) [ inl o ↦ o | inr g ↦ absurd (no simplex g) ],
+    λ c. elim c as (λ _. Contains old simplex) [ inl o ↦ o | inr g ↦ absurd (never simplex g) ],
   );
 }
 

@@ -19,24 +19,24 @@ use Rattle.pulling_tri.proofs.Chains.{Ascends, least_first, first_there, filter_
 
 pub kept_by : {X : Type 0} (p : X → Bool) (xs : List X) (x : X) → Contains xs x → p x ≡ true → Contains (filter p xs) x
 kept_by p [] x c e = absurd (let h : c.0 < 0 = c.1 in omega arith)
-kept_by {X} p (y ∷ xs) x c e = by_test (p y) refl (Contains-split x y xs c)
+kept_by {X} p (y ∷ xs) x c e = by_test (λ m. kept_by p xs x m e) (p y) refl (Contains-split x y xs c)
   where
-    by_test : (b : Bool) → p y ≡ b → (y ≡ x) ⊎ Contains xs x → Contains (if b then y ∷ filter p xs else filter p xs) x
-    by_test true t (inl s) = subst (λ (z : X). Contains (y ∷ filter p xs) z) s (Contains-head y (filter p xs))
-    by_test true t (inr m) = Contains-tail x y (filter p xs) (kept_by p xs x m e)
-    by_test false t (inl s) = absurd (false≢true (sym t ∙ subst (λ (z : X). p z ≡ true) (sym s) e))
-    by_test false t (inr m) = kept_by p xs x m e
+    by_test : (Contains xs x → Contains (filter p xs) x) → (b : Bool) → p y ≡ b → (y ≡ x) ⊎ Contains xs x → Contains (if b then y ∷ filter p xs else filter p xs) x
+    by_test behind true t (inl s) = subst (λ (z : X). Contains (y ∷ filter p xs) z) s (Contains-head y (filter p xs))
+    by_test behind true t (inr m) = Contains-tail x y (filter p xs) (behind m)
+    by_test behind false t (inl s) = absurd (false≢true (sym t ∙ subst (λ (z : X). p z ≡ true) (sym s) e))
+    by_test behind false t (inr m) = behind m
 
 pub kept_passes : {X : Type 0} (p : X → Bool) (xs : List X) (x : X) → Contains (filter p xs) x → p x ≡ true
 kept_passes p [] x c = absurd (let h : c.0 < 0 = c.1 in omega arith)
-kept_passes {X} p (y ∷ xs) x c = by_test (p y) refl c
+kept_passes {X} p (y ∷ xs) x c = by_test (λ m. kept_passes p xs x m) (p y) refl c
   where
-    by_test : (b : Bool) → p y ≡ b → Contains (if b then y ∷ filter p xs else filter p xs) x → p x ≡ true
-    by_test true t m = elim (Contains-split x y (filter p xs) m) as (λ _. p x ≡ true) [
+    by_test : (Contains (filter p xs) x → p x ≡ true) → (b : Bool) → p y ≡ b → Contains (if b then y ∷ filter p xs else filter p xs) x → p x ≡ true
+    by_test behind true t m = elim (Contains-split x y (filter p xs) m) as (λ _. p x ≡ true) [
       | inl s ↦ subst (λ (z : X). p z ≡ true) s t
-      | inr n ↦ kept_passes p xs x n
+      | inr n ↦ behind n
     ]
-    by_test false t m = kept_passes p xs x m
+    by_test behind false t m = behind m
 
 same_filter : {X : Type 0} (p q : X → Bool) (xs : List X) → ((x : X) → Contains xs x → p x ≡ q x) → filter p xs ≡ filter q xs
 same_filter p q [] h = refl
@@ -137,6 +137,13 @@ has_lowest n h k = let t = bit_at-trailing_zeros w64 n h k in bit_member n (trai
 not_none : (xs : List ℕ) (x : ℕ) → Contains xs x → xs ≢ []
 not_none xs x c e = let d = subst (λ (s : List ℕ). Contains s x) e c in let h : d.0 < 0 = d.1 in omega arith
 
+not_below : (a b : ℕ) → a ≤ b → ¬ (a < b) → b ≡ a
+not_below a b l never = by_test (nat_lt a b) refl
+  where
+    by_test : (t : Bool) → nat_lt a b ≡ t → b ≡ a
+    by_test true e = absurd (never (grind (arith, nat_tests)))
+    by_test false e = let m : b ≤ a = grind (arith, nat_tests) in omega arith
+
 pub first_is_lowest : (n : ℕ) → 0 < n → n < 2 ^ 64 → trailing_zeros w64 n ≡ first_vertex (set_of n)
 first_is_lowest n h k =
     let t = bit_at-trailing_zeros w64 n h k in
@@ -144,13 +151,7 @@ first_is_lowest n h k =
     let l = least_first (set_of n) (trailing_zeros w64 n) (set_ascends n) c in
     let m = first_there (set_of n) (not_none (set_of n) (trailing_zeros w64 n) c) in
     let one = member_bit n (first_vertex (set_of n)) m in
-    let not_below : ¬ (first_vertex (set_of n) < trailing_zeros w64 n) = λ b. let z = t.2 (first_vertex (set_of n)) b in omega arith in
-    by_test (nat_lt (first_vertex (set_of n)) (trailing_zeros w64 n)) refl l not_below
-  where
-    by_test : (b : Bool) → nat_lt (first_vertex (set_of n)) (trailing_zeros w64 n) ≡ b → first_vertex (set_of n) ≤ trailing_zeros w64 n → ¬ (first_vertex (set_of n) < trailing_zeros w64 n)
-        → trailing_zeros w64 n ≡ first_vertex (set_of n)
-    by_test true e l no = absurd (no (grind (arith, nat_tests)))
-    by_test false e l no = let m : trailing_zeros w64 n ≤ first_vertex (set_of n) = grind (arith, nat_tests) in omega arith
+    not_below (first_vertex (set_of n)) (trailing_zeros w64 n) l (λ b. let z = t.2 (first_vertex (set_of n)) b in omega arith)
 
 alone : (xs : List ℕ) (x : ℕ) → Ascends xs → Contains xs x → ((y : ℕ) → Contains xs y → y ≡ x) → length xs ≡ 1
 alone [] x a c h = absurd (let k : c.0 < 0 = c.1 in omega arith)
@@ -191,9 +192,6 @@ power_is_point n h k e = alone (set_of n) (trailing_zeros w64 n) (set_ascends n)
 pub point_is_power : (n : ℕ) → 0 < n → n < 2 ^ 64 → 2 ^ trailing_zeros w64 n < 2 ^ 64 → length (set_of n) ≡ 1 → n ≡ 2 ^ trailing_zeros w64 n
 point_is_power n h k p l = same_from_bits_below 64 n (2 ^ trailing_zeros w64 n) k p (λ i b. by_place i b (same_or_other i (trailing_zeros w64 n)) (zero_or_one (bit_at n i) (bit_at-lt n i)))
   where
-    t : ℕ
-    t = trailing_zeros w64 n
-
     by_place : (i : ℕ) → i < 64 → (i ≡ trailing_zeros w64 n) ⊎ (i ≢ trailing_zeros w64 n) → (bit_at n i ≡ 0) ⊎ (bit_at n i ≡ 1) → bit_at n i ≡ bit_at (2 ^ trailing_zeros w64 n) i
     by_place i b (inl s) v =
         ap (bit_at n) s ∙ (bit_at-trailing_zeros w64 n h k).1 ∙ sym (ap (bit_at (2 ^ trailing_zeros w64 n)) s ∙ bit_at-pow_same (trailing_zeros w64 n))
