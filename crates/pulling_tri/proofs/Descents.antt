@@ -1,11 +1,10 @@
 -- The lists of first vertices along all chains through a set are those along the chains through its next sets.
-use Rattle.std.specs.Prelude.{◌≡◌, ◌≢◌, ◌↔◌, ◌⊎◌, ◌<◌, ◌+◌, ℕ, suc, false, List, [], ◌∷◌, ◌++◌, map, length, Contains}
+use Rattle.std.specs.Prelude.{◌≡◌, ◌≢◌, ◌⊎◌, ◌<◌, ◌+◌, ℕ, suc, List, [], ◌∷◌, ◌++◌, map, length, Contains}
 use Rattle.std.proofs.Common.{refl, sym, ap, ◌∙◌, subst, arith, inl, inr, append_assoc}
-use Rattle.std.proofs.lemmas.List.Elements.{Contains-append_left, Contains-append_cases, Contains-push, Contains-push_cases}
+use Rattle.std.proofs.lemmas.List.Elements.{Contains-append_left, Contains-push, Contains-push_cases}
 use Rattle.iso_model.specs.Hulls.{first_vertex}
-use Rattle.iso_model.proofs.FaceLaws.{Contains-head, Contains-tail, Contains-split}
 use Rattle.pulling_tri.specs.Pulling.{IsNext, AreNext, IsDescent, GoesOn, AddsPulled, AddsBelow}
-use Rattle.pulling_tri.proofs.Chains.{no_face_of_none}
+use Rattle.pulling_tri.proofs.ChainLaws.{no_face_of_none}
 
 longer : (front : List ℕ) (x : ℕ) → length (front ++ x ∷ []) ≡ length front + 1
 longer [] x = refl

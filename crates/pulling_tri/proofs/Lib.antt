@@ -1,3 +1,6 @@
-pub mod Chains
+pub mod ChainLaws
 pub mod Descents
+pub mod FaceSets
+pub mod PointSetLaws
 pub mod SetBits
+pub mod Tuples

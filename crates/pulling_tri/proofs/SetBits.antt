@@ -1,5 +1,5 @@
 -- Sets of points as numbers: the members of a number's set are the places of its bits.
-use Rattle.std.specs.Prelude.{◌≡◌, ◌≢◌, ◌⊎◌, ◌<◌, ◌≤◌, ◌+◌, ◌^◌, ◌==◌, ℕ, zero, suc, Bool, true, false, min, nat_eq, nat_lt, ◌&&◌, List, [], ◌∷◌, filter, length, Contains, ⊤, if◌then◌else◌, bit_and}
+use Rattle.std.specs.Prelude.{◌≡◌, ◌≢◌, ◌⊎◌, ◌<◌, ◌≤◌, ◌+◌, ◌^◌, ◌==◌, ℕ, zero, suc, Bool, true, false, min, nat_eq, nat_lt, ◌&&◌, List, [], ◌∷◌, filter, length, Contains, if◌then◌else◌, bit_and}
 use Rattle.std.specs.Int.{bit_at, trailing_zeros, w64}
 use Rattle.std.specs.List.{range_with_len}
 use Rattle.std.proofs.Common.{refl, sym, ap, ◌∙◌, subst, arith, inl, inr}
@@ -12,8 +12,7 @@ use Rattle.iso_model.specs.Orders.{numbers, has}
 use Rattle.iso_model.specs.Hulls.{meet, set_of, first_vertex, LiesWithin}
 use Rattle.iso_model.proofs.Deciding.{below_contained, contained_below, of_equal, equal_of}
 use Rattle.iso_model.proofs.FaceLaws.{Contains-head, Contains-tail, Contains-split, Contains-filter}
-use Rattle.iso_model.proofs.FixedLists.{AscendsBy}
-use Rattle.pulling_tri.proofs.Chains.{Ascends, least_first, first_there, filter_ascends}
+use Rattle.pulling_tri.proofs.ChainLaws.{Ascends, least_first, first_there, filter_ascends}
 
 -- ---- lists that are filtered
 

@@ -1,12 +1,11 @@
 -- A chain of sets is its first set with a descent from there, and its first vertices ascend.
-use Rattle.std.specs.Prelude.{◌≡◌, ◌≢◌, ◌↔◌, ◌⊎◌, ◌<◌, ◌≤◌, ◌+◌, ◌-◌, ℕ, zero, suc, Bool, true, false, nat_le, List, [], ◌∷◌, ◌++◌, map, filter, length, slice_index_or, Contains, ⊤, if◌then◌else◌}
+use Rattle.std.specs.Prelude.{◌≡◌, ◌≢◌, ◌<◌, ◌≤◌, ◌+◌, ◌-◌, ℕ, zero, suc, Bool, true, false, nat_le, List, [], ◌∷◌, map, filter, length, slice_index_or, Contains, if◌then◌else◌}
 use Rattle.std.specs.List.{AllAdjacentBelow}
 use Rattle.std.proofs.Common.{refl, sym, ap, ◌∙◌, subst, arith, inl, inr}
-use Rattle.std.proofs.lemmas.Bool.{false≢true}
 use Rattle.std.proofs.lemmas.Bool.Decides.{nat_tests}
 use Rattle.iso_model.specs.Orders.{has, put_in, sorted}
-use Rattle.iso_model.specs.Hulls.{meet, IsFaceOf, IsChain, IsPulled, first_vertex}
-use Rattle.iso_model.proofs.FaceLaws.{Contains-head, Contains-tail, Contains-split, Contains-filter}
+use Rattle.iso_model.specs.Hulls.{IsFaceOf, IsChain, IsPulled, first_vertex}
+use Rattle.iso_model.proofs.FaceLaws.{Contains-head, Contains-split, Contains-filter}
 use Rattle.iso_model.proofs.FixedLists.{AscendsBy}
 use Rattle.pulling_tri.specs.Pulling.{IsNext, IsDescent, GoesOn}
 
