@@ -1,3 +1,4 @@
+pub mod Callers
 pub mod ChainLaws
 pub mod Descents
 pub mod FaceSets

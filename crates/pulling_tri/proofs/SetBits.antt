@@ -62,13 +62,13 @@ has_member xs i e =
 pub member_has : (xs : List ℕ) (i : ℕ) → Contains xs i → has xs i ≡ true
 member_has xs i c = list_any-from_Any (nat_eq i) xs (c.0, i, c.1, c.2, of_equal i i refl)
 
-bit_member : (n i : ℕ) → i < 64 → bit_at n i ≡ 1 → Contains (set_of n) i
+pub bit_member : (n i : ℕ) → i < 64 → bit_at n i ≡ 1 → Contains (set_of n) i
 bit_member n i h e = kept_by (λ k. bit_at n k == 1) (numbers 64) i (contained_below 64 i h) (of_equal (bit_at n i) 1 e)
 
-member_bit : (n i : ℕ) → Contains (set_of n) i → bit_at n i ≡ 1
+pub member_bit : (n i : ℕ) → Contains (set_of n) i → bit_at n i ≡ 1
 member_bit n i c = equal_of (bit_at n i) 1 (kept_passes (λ k. bit_at n k == 1) (numbers 64) i c)
 
-member_below : (n i : ℕ) → Contains (set_of n) i → i < 64
+pub member_below : (n i : ℕ) → Contains (set_of n) i → i < 64
 member_below n i c = below_contained 64 i (Contains-filter (λ k. bit_at n k == 1) (numbers 64) i c)
 
 same_tests : (a b : Bool) → (a ≡ true → b ≡ true) → (b ≡ true → a ≡ true) → a ≡ b
@@ -116,7 +116,7 @@ number_within a b h e = let l = and_le_l a b in same_number (bit_and a b) a (ome
 
 -- ---- the first vertex, and a set of one point
 
-range_ascends : (a n : ℕ) → Ascends (range_with_len a n)
+pub range_ascends : (a n : ℕ) → Ascends (range_with_len a n)
 range_ascends a zero = tt
 range_ascends a (suc n) = (λ y c. after y (a + 1) n (omega arith) c, range_ascends (a + 1) n)
   where

@@ -3,9 +3,11 @@
 //! A set of points is written as a number whose bit i is set where point i is a member, so there are at most 64 points,
 //! with the numbers 0 to 63.
 //!
-//! For proofs above this crate: `pull` ensures `ArePulled` of `iso_model`, and that fixes its answer. Of the files in
-//! `proofs`, `SetBits` has the sets of numbers (`set_of_meet`, `same_number`, `set_ascends`), and `ChainLaws` says that the
-//! first vertices along a chain ascend (`firsts_sorted`).
+//! For proofs above this crate: `pull` ensures `ArePulled` of `iso_model`, which fixes its answer, over the sets of the
+//! numbers (`point_set` of `specs/PointSets`). Of the files in `proofs`, `Callers` says when the set of a number is the
+//! one that is given by a test (`points-are`), and that two predicates with the same facets have the same pulled simplices
+//! (`pulled_same`); `PointSetLaws` has the meets and bits of these sets and that they ascend (`points-ascend`);
+//! `ChainLaws` says that the first vertices along a chain ascend (`firsts_sorted`).
 #![tactic(auto)]
 
 mod chains;
