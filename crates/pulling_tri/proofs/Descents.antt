@@ -1,6 +1,7 @@
 -- The lists of first vertices along all chains through a set are those along the chains through its next sets.
 use Rattle.std.specs.Prelude.{◌≡◌, ◌≢◌, ◌⊎◌, ◌<◌, ◌+◌, ℕ, suc, List, [], ◌∷◌, ◌++◌, map, length, Contains}
-use Rattle.std.proofs.Common.{refl, sym, ap, ◌∙◌, subst, arith, inl, inr, append_assoc}
+use Rattle.std.proofs.lemmas.List.{take_all}
+use Rattle.std.proofs.Common.{take, length-take-le, refl, sym, ap, ◌∙◌, subst, arith, inl, inr, append_assoc}
 use Rattle.std.proofs.lemmas.List.Elements.{Contains-append_left, Contains-push, Contains-push_cases}
 use Rattle.iso_model.specs.Hulls.{first_vertex}
 use Rattle.pulling_tri.specs.Pulling.{IsNext, AreNext, IsDescent, GoesOn, AddsPulled, AddsBelow}
@@ -141,3 +142,32 @@ one_point Facet d front set old l n = record { each = λ simplex. (λ c. there s
         subst (λ (s : List ℕ). Contains (old ++ (front ++ first_vertex set ∷ []) ∷ []) s)
         (sym (g.vertices ∙ ap (λ (c : List (List ℕ)). front ++ map first_vertex (set ∷ c)) e))
         (Contains-push old (front ++ first_vertex set ∷ []))
+
+-- ---- a list of first vertices in a longer one
+
+filled_length : (firsts : List ℕ) (filled d : ℕ) → length firsts ≡ d → filled < d → length (take filled firsts) ≡ filled
+filled_length firsts filled d l h = length-take-le filled firsts (omega arith)
+
+-- the first vertices of a whole chain are put at the end, where its last set is a single point
+pub point_put : (Facet : List ℕ → Type 0) (d : ℕ) (firsts longer : List ℕ) (filled x : ℕ) (set : List ℕ) (old new : List (List ℕ)) → length firsts ≡ d → filled + 1 ≡ d → length longer ≡ d
+    → take (filled + 1) longer ≡ take filled firsts ++ x ∷ [] → x ≡ first_vertex set → length set ≡ 1 → new ≡ old ++ longer ∷ [] → AddsPulled Facet d (take filled firsts) set old new
+point_put Facet d firsts longer filled x set old new l f w more least point put =
+    let n = filled_length firsts filled d l (omega arith) in
+    let tuple : longer ≡ take filled firsts ++ first_vertex set ∷ [] =
+    sym (take_all (filled + 1) longer (omega arith)) ∙ more ∙ ap (λ (y : ℕ). take filled firsts ++ y ∷ []) least in
+    subst (λ (s : List (List ℕ)). AddsPulled Facet d (take filled firsts) set old s) (sym (put ∙ ap (λ (t : List ℕ). old ++ t ∷ []) tuple))
+    (one_point Facet d (take filled firsts) set old (omega arith) point)
+
+-- and where it is not, there is nothing to put
+pub no_point_put : (Facet : List ℕ → Type 0) (d : ℕ) (firsts : List ℕ) (filled : ℕ) (set : List ℕ) (old : List (List ℕ)) → length firsts ≡ d → filled + 1 ≡ d → length set ≢ 1
+    → AddsPulled Facet d (take filled firsts) set old old
+no_point_put Facet d firsts filled set old l f n = let m = filled_length firsts filled d l (omega arith) in no_point Facet d (take filled firsts) set old (omega arith) n
+
+-- all next sets are gone through
+pub all_put : (Facet : List ℕ → Type 0) (d : ℕ) (firsts longer : List ℕ) (filled x : ℕ) (set : List ℕ) (faces old new : List (List ℕ)) → length firsts ≡ d → filled + 1 < d
+    → take (filled + 1) longer ≡ take filled firsts ++ x ∷ [] → x ≡ first_vertex set → AreNext Facet set faces → AddsBelow Facet d (take (filled + 1) longer) faces old new
+    → AddsPulled Facet d (take filled firsts) set old new
+all_put Facet d firsts longer filled x set faces old new l h more least next below =
+    let n = filled_length firsts filled d l (omega arith) in
+    all_below Facet d (take filled firsts) set faces old new (omega arith) next
+    (subst (λ (f : List ℕ). AddsBelow Facet d f faces old new) (more ∙ ap (λ (y : ℕ). take filled firsts ++ y ∷ []) least) below)

@@ -57,8 +57,8 @@ fn go_on<const D: usize>(
 /// The pulled simplices of a face of a polytope, each as the ascending tuple of the numbers of its points, each once, in
 /// ascending order of the tuples. D is 2, 3 or 4.
 ///
-/// `facets` has the sets of points of the polytope's facets, and `face` is one of them. A set is written as a number
-/// whose bit i is set where point i, from 0 to 63, is a member.
+/// `facets` has the sets of points of the polytope's facets, and `face` is one of them; the same holds of any other set of
+/// points. A set is written as a number whose bit i is set where point i, from 0 to 63, is a member.
 ///
 /// The first vertex of a set is its point of least number. The faces of a set are the maximal ones among those of its
 /// meets with a facet that are not the set itself. A pulled simplex of the face is the set of the first vertices along a
