@@ -1,0 +1,7 @@
+pub mod Callers
+pub mod ChainLaws
+pub mod Descents
+pub mod FaceSets
+pub mod PointSetLaws
+pub mod SetBits
+pub mod Tuples

@@ -1,0 +1,67 @@
+-- A list of tuples that is sorted, and of which repeats are dropped, has all pulled simplices in ascending order.
+use Rattle.std.specs.Prelude.{◌≡◌, ◌<◌, ℕ, Bool, true, false, ◌&&◌, ◌||◌, ◌==◌, nat_eq, nat_lt, cond, List, [], ◌∷◌, length, Contains, IsTrue, IsPermutation}
+use Rattle.std.specs.List.{dedup}
+use Rattle.std.specs.List.Sorted.{IsSorted, IsStrictlySortedBy}
+use Rattle.std.specs.Cmp.Lexicographic.{slice_cmp, pointwise, texts_ties}
+use Rattle.std.specs.declared.cmp.Ordering.TheVariants.{Less, Equal, Greater}
+use Rattle.std.specs.Ordering.{nat_cmp, ordering_then}
+use Rattle.std.proofs.Common.{refl, sym, ◌∙◌, subst, arith, inl, inr}
+use Rattle.std.proofs.lemmas.Cmp.{nat_list_cmp_total, nat_list_eq_equiv}
+use Rattle.std.proofs.lemmas.List.Elements.{All-from_recursion, All-contains}
+use Rattle.std.proofs.lemmas.List.Kept.{Contains-dedup, Contains-from_dedup, IsStrictlySortedBy-dedup}
+use Rattle.std.proofs.lemmas.List.Sorted.{Contains-permutation, IsPermutation-sym}
+use Rattle.std.proofs.lemmas.Slice.Eq.{bytes_eq-Decides}
+use Rattle.iso_model.specs.Orders.{comes_before}
+use Rattle.iso_model.specs.Hulls.{ArePulled}
+use Rattle.iso_model.proofs.FaceLaws.{Contains-head, Contains-tail}
+use Rattle.iso_model.proofs.FixedLists.{AscendsBy, ascends_by_steps}
+use Rattle.pulling_tri.specs.Pulling.{GoesOn, AddsPulled}
+use Rattle.pulling_tri.proofs.ChainLaws.{Ascends, pulled_goes_on, goes_on_pulled, goes_on_length}
+
+-- ---- the order of tuples
+
+before_from_less : (x y : List ℕ) → length x ≡ length y → slice_cmp nat_cmp x y ≡ Less → comes_before x y ≡ true
+before_from_less [] [] l e = absurd (cc)
+before_from_less [] (b ∷ y) l e = absurd (omega arith)
+before_from_less (a ∷ x) [] l e = absurd (omega arith)
+before_from_less (a ∷ x) (b ∷ y) l e = by_tests (nat_lt a b) (a == b) (λ f. before_from_less x y (omega arith) f) e
+  where
+    by_tests : (p q : Bool) → (slice_cmp nat_cmp x y ≡ Less → comes_before x y ≡ true) → ordering_then (cond p Less (cond q Equal Greater)) (slice_cmp nat_cmp x y) ≡ Less
+        → (p || (q && comes_before x y)) ≡ true
+    by_tests true q behind f = refl
+    by_tests false true behind f = behind f
+    by_tests false false behind f = absurd (cc)
+
+ascends_from : (d : ℕ) (xs : List (List ℕ)) → ((x : List ℕ) → Contains xs x → length x ≡ d) → IsStrictlySortedBy (slice_cmp nat_cmp) xs → AscendsBy (λ (v w : List ℕ). IsTrue (comes_before v w)) xs
+unfolding IsStrictlySortedBy
+ascends_from d [] wide s = tt
+ascends_from d (x ∷ xs) wide s = (
+  λ y c. before_from_less x y (wide x (Contains-head x xs) ∙ sym (wide y (Contains-tail y x xs c)))
+      (All-contains (λ (z : List ℕ). slice_cmp nat_cmp x z ≡ Less) xs y (All-from_recursion (λ (z : List ℕ). slice_cmp nat_cmp x z ≡ Less) xs s.0) c),
+  ascends_from d xs (λ y c. wide y (Contains-tail y x xs c)) s.1,
+)
+
+-- ---- the answer
+
+pub pulled_list : (Facet : List ℕ → Type 0) (d : ℕ) (set : List ℕ) (added moved kept : List (List ℕ)) → Ascends set → AddsPulled Facet d [] set [] added → IsPermutation added moved
+    → IsSorted (slice_cmp nat_cmp) moved → kept ≡ dedup (pointwise nat_eq) moved → ArePulled Facet d set kept
+pulled_list Facet d set added moved kept a adds p s k = record {
+  each = λ simplex. (λ c. goes_on_pulled Facet d set simplex a (there simplex c), λ h. back simplex (pulled_goes_on Facet d set simplex a h));
+  ascending = ascends_by_steps (λ (v w : List ℕ). IsTrue (comes_before v w)) kept (subst (AscendsBy (λ (v w : List ℕ). IsTrue (comes_before v w))) (sym k) rises);
+}
+  where
+    there : (simplex : List ℕ) → Contains kept simplex → GoesOn Facet d [] set simplex
+    there simplex c =
+        let m = Contains-from_dedup (pointwise nat_eq) moved simplex (subst (λ (xs : List (List ℕ)). Contains xs simplex) k c) in
+        elim ((adds.each simplex).0 (Contains-permutation moved added simplex (IsPermutation-sym added moved p) m)) as (λ _. GoesOn Facet d [] set simplex) [
+          | inl o ↦ absurd (let h : o.0 < 0 = o.1 in omega arith)
+          | inr g ↦ g
+        ]
+
+    back : (simplex : List ℕ) → GoesOn Facet d [] set simplex → Contains kept simplex
+    back simplex g = subst (λ (xs : List (List ℕ)). Contains xs simplex) (sym k)
+        (Contains-dedup nat_list_eq_equiv (λ x y e. (bytes_eq-Decides x y).0 e) moved simplex (Contains-permutation added moved simplex p ((adds.each simplex).1 (inr g))))
+
+    rises : AscendsBy (λ (v w : List ℕ). IsTrue (comes_before v w)) (dedup (pointwise nat_eq) moved)
+    rises = ascends_from d (dedup (pointwise nat_eq) moved) (λ x c. goes_on_length Facet d set x (there x (subst (λ (xs : List (List ℕ)). Contains xs x) (sym k) c)))
+        (IsStrictlySortedBy-dedup nat_list_cmp_total texts_ties moved s)
