@@ -1,0 +1,4 @@
+pub mod Fills
+pub mod Quotients
+pub mod Places
+pub mod CubeTotals
