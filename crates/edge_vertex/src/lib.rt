@@ -5,7 +5,9 @@
 #![tactic(auto)]
 
 mod crossings;
+mod labels;
 mod values;
 
 pub use crossings::{crossing, positive};
+pub use labels::label_of;
 pub use values::value_at;
