@@ -1,5 +1,5 @@
 -- The corners of a grid's cells are points that have a value.
-use Rattle.std.proofs.Common.{◌≡◌, ℕ, zero, suc, ◌+◌, ◌-◌, ◌*◌, ◌/◌, ◌%◌, ◌<◌, ◌≤◌, Bool, true, false, List, length, refl, ap, sym, ◌∙◌, subst, arith, inl, inr}
+use Rattle.std.proofs.Common.{◌≡◌, ℕ, ◌+◌, ◌-◌, ◌*◌, ◌/◌, ◌%◌, ◌<◌, ◌≤◌, Bool, true, false, List, length, refl, sym, ◌∙◌, subst, arith, inl, inr}
 use Rattle.std.specs.Prelude.{if◌then◌else◌, ◌==◌, ◌⊎◌, slice_index, count_by, nat_eq, nat_lt, take}
 use Rattle.std.specs.Int.{bit_at}
 use Rattle.iso_model.specs.declared.Kind.{Kind}
@@ -7,7 +7,7 @@ use Rattle.iso_model.specs.declared.Kind.TheVariants.{Cube, Simplex, Pyramid}
 use Rattle.iso_model.specs.Points.{point}
 use Rattle.iso_model.specs.Cells.{HasDimension, corner_count}
 use Rattle.iso_model.specs.Splits.{cells_per_cube, cell_count, cube_of, rank_of, corner, corner_offset, pyramid_offset, axis_order, base_axis, base_side}
-use Rattle.iso_model.specs.Values.{HasValue, IsSamplePoint, IsCentre}
+use Rattle.iso_model.specs.Values.{HasValue}
 use Rattle.iso_model.proofs.BipolarLaws.{length-corner}
 use Rattle.cell_lattice.specs.Dimensions.{IsDimension, of_each_cell}
 use Rattle.split_laws.proofs.Coordinates.{coordinate, cube_below, cube_in, rank_below}

@@ -1,13 +1,12 @@
 -- Values of points by the places of samples.
-use Rattle.std.proofs.Common.{◌≡◌, ℕ, zero, suc, ◌+◌, ◌-◌, ◌*◌, ◌/◌, ◌%◌, ◌<◌, ◌≤◌, Bool, true, false, List, [], ◌∷◌, length, refl, ap, sym, ◌∙◌, subst, arith, slice_index_or, ℤ, pos, ◌+ℤ◌, ◌*ℤ◌, eqb, unsigned_abs, ◌^◌}
-use Rattle.std.specs.Prelude.{slice_index, map, ◌==◌, All, neg_ℤ, ◌≤ℤ◌}
+use Rattle.std.proofs.Common.{◌≡◌, ℕ, suc, ◌+◌, ◌*◌, ◌/◌, ◌%◌, ◌<◌, true, false, List, [], ◌∷◌, length, refl, ap, ◌∙◌, arith, ℤ, pos, ◌+ℤ◌, ◌*ℤ◌}
+use Rattle.std.specs.Prelude.{slice_index, ◌==◌}
 use Rattle.std.specs.List.{list_all}
 use Rattle.std.proofs.lemmas.Int.{ints}
-use Rattle.std.proofs.lemmas.Bool.Decides.{nat_tests}
 use Rattle.std.proofs.lemmas.List.Folds.{list_all_at}
 use Rattle.iso_model.specs.Turns.{total}
-use Rattle.iso_model.specs.Values.{IsSamplePoint, IsCentre, sample_number, sample_at, cube_samples, product, value_at}
-use Rattle.edge_vertex.specs.Sums.{sample, pair_total, square_total, cube_total}
+use Rattle.iso_model.specs.Values.{IsSamplePoint, IsCentre, sample_number, cube_samples, product, value_at}
+use Rattle.edge_vertex.specs.Sums.{sample, cube_total}
 use Rattle.edge_vertex.proofs.Places.{halves, next_below}
 
 even_all : (p : List ℕ) → ((i : ℕ) → i < length p → slice_index p i % 2 ≡ 0) → list_all (λ c. c % 2 == 0) p ≡ true

@@ -4,3 +4,7 @@ pub mod Places
 pub mod CubeTotals
 pub mod LabelSums
 pub mod Corners
+pub mod EdgePlaces
+pub mod Added
+pub mod Ascending
+pub mod Listed

@@ -1,8 +1,8 @@
 -- The place of a sample among all samples, one axis at a time.
-use Rattle.std.proofs.Common.{◌≡◌, ℕ, zero, suc, ◌+◌, ◌-◌, ◌*◌, ◌/◌, ◌<◌, ◌≤◌, List, [], ◌∷◌, length, refl, ap, sym, ◌∙◌, subst, arith, add-one, drop-cons, slice_index_or}
+use Rattle.std.proofs.Common.{◌≡◌, ℕ, zero, suc, ◌+◌, ◌*◌, ◌/◌, ◌<◌, ◌≤◌, List, [], ◌∷◌, length, refl, ap, sym, ◌∙◌, arith, add-one, drop-cons}
 use Rattle.std.specs.Prelude.{slice_index, drop, map}
 use Rattle.std.proofs.lemmas.List.{get_or-map, length-map, drop_all}
-use Rattle.std.proofs.Math.Nat.{mul-le-mul_left, mul-le-mul_right, le_trans}
+use Rattle.std.proofs.Math.Nat.{mul-le-mul_left, mul-le-mul_right}
 use Rattle.iso_model.specs.Values.{product, sample_number}
 use Rattle.grid_split.proofs.CubeNumbers.{product_of}
 

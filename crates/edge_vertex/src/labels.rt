@@ -33,7 +33,7 @@ pub fn label_of<C: Split<D>, const D: usize>(
 }
 
 // A complex has as many axes as its cells.
-fn know_axes<C: Split<D>, const D: usize>(complex: &Complex<C, D>)
+pub fn know_axes<C: Split<D>, const D: usize>(complex: &Complex<C, D>)
     ensures { length complex.now ≡ D }
 {
     let _ = complex.cells();

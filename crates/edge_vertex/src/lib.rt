@@ -5,9 +5,13 @@
 #![tactic(auto)]
 
 mod crossings;
+mod edges;
+mod found;
 mod labels;
 mod values;
 
 pub use crossings::{crossing, positive};
+pub use edges::EdgeList;
+pub use found::bipolar;
 pub use labels::label_of;
 pub use values::value_at;

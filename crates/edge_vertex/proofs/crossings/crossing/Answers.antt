@@ -1,4 +1,4 @@
-use Rattle.std.proofs.Common.{rules, ◌≡◌, ℕ, ◌+◌, ◌^◌, ◌<◌, ◌≤◌, length, ℤ, pos, ◌*ℤ◌, ◌-ℤ◌, unsigned_abs, slice_index_or, w64, FitsSigned, to_z, of_z, arith, ◌∙◌, ap, sym, subst}
+use Rattle.std.proofs.Common.{rules, ◌≡◌, ℕ, ◌^◌, ◌<◌, ◌≤◌, length, pos, ◌*ℤ◌, ◌-ℤ◌, unsigned_abs, arith, ◌∙◌, ap}
 use Rattle.std.specs.Prelude.{map}
 use Rattle.std.proofs.lemmas.Int.{ints}
 use Rattle.iso_model.specs.Points.{axes}

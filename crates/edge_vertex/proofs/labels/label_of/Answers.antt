@@ -1,4 +1,4 @@
-use Rattle.std.proofs.Common.{rules, ◌≡◌, ℕ, ◌+◌, ◌^◌, ◌<◌, ◌≤◌, Bool, List, length, None, ℤ, w64, FitsSigned, to_z, of_z, arith, ◌∙◌, ap, sym, subst}
+use Rattle.std.proofs.Common.{rules, ◌≡◌, ℕ, ◌^◌, ◌<◌, List, length, None, ℤ, w64, FitsSigned, to_z, of_z, arith, ◌∙◌, ap, sym, subst}
 use Rattle.std.proofs.lemmas.Int.{to_z-of_z, fits_signed_from_abs}
 use Rattle.iso_model.specs.Cells.{HasDimension, corner_count}
 use Rattle.iso_model.specs.Splits.{cells_per_cube, corner}

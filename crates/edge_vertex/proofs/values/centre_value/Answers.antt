@@ -1,4 +1,4 @@
-use Rattle.std.proofs.Common.{rules, ◌≡◌, ℕ, ◌+◌, ◌*◌, ◌^◌, ◌<◌, ◌≤◌, length, ℤ, pos, ◌*ℤ◌, unsigned_abs, w64, FitsSigned, to_z, of_z, arith, ◌∙◌, ap, sym}
+use Rattle.std.proofs.Common.{w64, FitsSigned, arith, ◌∙◌, sym}
 use Rattle.std.proofs.lemmas.Int.{to_z-of_z, fits_signed_from_abs}
 use Rattle.edge_vertex.proofs.CubeTotals.{centre_value, centre_inside}
 use Rattle.edge_vertex.proofs.values.centre_value.Goals as goal

@@ -1,5 +1,5 @@
-use Rattle.std.proofs.Common.{rules, ◌≡◌, ℕ, ◌+◌, ◌-◌, ◌*◌, ◌^◌, ◌<◌, ◌≤◌, length, arith, ◌∙◌, ap, sym, subst}
-use Rattle.edge_vertex.proofs.Places.{PlaceFrom, NextPlace, no_axes, all_axes, one_axis_more}
+use Rattle.std.proofs.Common.{ℕ, ◌+◌, ◌-◌, arith, subst}
+use Rattle.edge_vertex.proofs.Places.{PlaceFrom, no_axes, all_axes, one_axis_more}
 use Rattle.edge_vertex.proofs.values.place_of.Goals as goal
 
 pub loop-axis-init : goal.loop-axis-init

@@ -1,4 +1,4 @@
-use Rattle.std.proofs.Common.{rules, ◌≡◌, ℕ, ◌+◌, ◌*◌, ◌^◌, ◌<◌, ◌≤◌, length, ℤ, pos, ◌*ℤ◌, unsigned_abs, w64, FitsSigned, to_z, of_z, arith, ◌∙◌, ap, sym}
+use Rattle.std.proofs.Common.{ℤ, pos, ◌*ℤ◌, w64, FitsSigned, arith, ◌∙◌, ap, sym}
 use Rattle.std.proofs.lemmas.Int.{to_z-of_z, fits_signed_from_abs, unsigned_abs-mul}
 use Rattle.edge_vertex.proofs.CubeTotals.{sample_value}
 use Rattle.edge_vertex.proofs.values.sample_value.Goals as goal
