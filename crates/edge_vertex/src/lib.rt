@@ -8,6 +8,8 @@ mod crossings;
 mod edges;
 mod found;
 mod labels;
+#[cfg(test)]
+mod tests;
 mod values;
 
 pub use crossings::{crossing, positive};
