@@ -1,0 +1,10 @@
+pub mod Fills
+pub mod Quotients
+pub mod Places
+pub mod CubeTotals
+pub mod LabelSums
+pub mod Corners
+pub mod EdgePlaces
+pub mod Added
+pub mod Ascending
+pub mod Listed

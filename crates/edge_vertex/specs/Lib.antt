@@ -1,0 +1,3 @@
+pub mod EdgeValue
+pub mod Ends
+pub mod Sums
