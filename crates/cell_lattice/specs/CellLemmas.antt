@@ -13,13 +13,12 @@ use Rattle.iso_model.specs.Turns.{turn, same_int}
 use Rattle.iso_model.specs.Cells.{HasDimension, edges, edge_count, edge_ends, edge_between, corner_count, corner_basis, corner_point, edge_midpoint, facet_count, facet_corners, facet_edges, facets_with, corner_in_facet, edge_in_facet, is_set}
 use Rattle.iso_model.specs.Hulls.{set_number}
 use Rattle.iso_model.specs.Seams.{Seam, seams, corner_across, edge_across}
-use Rattle.iso_model.specs.CellLaws.{HasOwnEdges, MeetsCorners, KeepsEdges, LiesInTwoFacets}
+use Rattle.iso_model.specs.CellLaws.{HasOwnEdges, MeetsCorners, KeepsEdges, LiesInTwoFacets, edge_direction, SpansAtCorner}
 use Rattle.cell_lattice.specs.Agreement.{agree, agree_on}
 use Rattle.cell_lattice.specs.Dimensions.{IsDimension, of_each_cell}
 use Rattle.cell_lattice.specs.SeamTables.{seam_at, met_corners, padded}
 use Rattle.cell_lattice.specs.Coordinates.{IsCoordinate}
 use Rattle.iso_model.specs.Points.{axes}
-use Rattle.cell_lattice.specs.Directions.{edge_direction, SpansAtCorner}
 
 pub and_left : (a b : Bool) → (a && b) ≡ true → a ≡ true
 and_left true b h = refl

@@ -1,6 +1,6 @@
 -- Bytes appended piece by piece.
 use Rattle.std.proofs.Common.{ℕ, ◌+◌, List, take, drop, Option, Some, None, append_assoc}
-use Rattle.std.specs.Io.KnownBytes.{Appends, Keeps}
+use Rattle.std.specs.Io.KnownBytes.{Appends}
 use Rattle.std.proofs.Math.Seq.{take-add}
 
 -- a front of a piece, and then a front of its rest
@@ -9,10 +9,3 @@ Appends-take_more None b c xs i n p q = tt
 Appends-take_more (Some a) None c xs i n p q = absurd p
 Appends-take_more (Some a) (Some b) None xs i n p q = absurd q
 Appends-take_more (Some a) (Some b) (Some c) xs i n p q = let e = take-add i n xs in let f = append_assoc a (take i xs) (take n (drop i xs)) in cc
-
--- what was appended stays where nothing more is
-pub Appends-keeps : (a b c : Option (List ℕ)) (xs : List ℕ) → Appends a b xs → Keeps b c → Appends a c xs
-Appends-keeps None b c xs p q = tt
-Appends-keeps (Some a) None c xs p q = absurd p
-Appends-keeps (Some a) (Some b) None xs p q = absurd q
-Appends-keeps (Some a) (Some b) (Some c) xs p q = cc

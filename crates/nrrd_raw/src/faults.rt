@@ -1,13 +1,12 @@
 //! Why a file gives no grid.
 
 use iso_model::Field;
-use std::fmt;
 use thiserror::Error;
 
 /// Why a file gives no grid. Of the causes that its bytes have, the first in reading order is answered.
 ///
 /// A line's number is counted from 1.
-#[derive(Clone, Copy, PartialEq, Eq, Drop, Error)]
+#[derive(Clone, Copy, Debug, PartialEq, Eq, Drop, Error)]
 pub enum GridFault {
     /// The file does not begin with `NRRD0001` to `NRRD0005` and a line end.
     #[error("the file does not begin as an NRRD file")]
@@ -63,12 +62,6 @@ pub enum GridFault {
     /// Memory was refused.
     #[error("out of memory")]
     Memory,
-}
-
-impl fmt::Debug for GridFault {
-    fn fmt<W: fmt::Write>(&self, f: &mut fmt::Formatter<W>) -> fmt::Result {
-        write!(f, "{self}")
-    }
 }
 
 fn field_name(field: Field) -> &'static str {

@@ -4,11 +4,10 @@ use Rattle.std.specs.Prelude.{All}
 use Rattle.std.specs.Fmt.{decimal}
 use Rattle.std.proofs.lemmas.Fmt.{decimal_injective}
 use Rattle.std.proofs.lemmas.List.{append_cancel_left}
-use Rattle.std.proofs.lemmas.List.Elements.{All-head, All-tail, All-weaker}
+use Rattle.std.proofs.lemmas.List.Elements.{All-head, All-tail}
 use Rattle.iso_model.specs.Faces.{Mesh}
-use Rattle.iso_model.specs.MeshText.{line, last_digits, millionths, mesh_text, HasShortNumbers, TextFixesMesh}
+use Rattle.iso_model.specs.MeshText.{line, last_digits, millionths, mesh_text, TextFixesMesh}
 use Rattle.off_write.specs.Pages.{format_lines, head, vertex_lines, simplex_lines}
-use Rattle.off_write.specs.TextLaw.{HasMachineNumbers, TextFixes}
 use Rattle.off_write.proofs.Pieces.{Above, Above-append, Above-rest, Above-less, same_piece, ArePlain, same_line, line_not_nothing, decimal_above, last_above}
 use Rattle.off_write.proofs.Parts.{text_is}
 
@@ -208,16 +207,7 @@ same_mesh m n p q = ap (λ (v : List (List ℤ)). mesh_of v m.simplices) p ∙ a
 pub some_dimension : (d : ℕ) → (d ≡ 2) ⊎ ((d ≡ 3) ⊎ (d ≡ 4)) → 1 ≤ d
 some_dimension d h = elim h [ inl a ↦ omega arith | inr b ↦ elim b [ inl c ↦ omega arith | inr e ↦ omega arith ] ]
 
-pub text_fixes : (d : ℕ) → 1 ≤ d → (m n : Mesh) → TextFixes d m n
+pub text_fixes : (d : ℕ) → 1 ≤ d → (m n : Mesh) → TextFixesMesh d m n
 text_fixes d h m n p q s t e =
     let r = vertices_fixed d m.vertices n.vertices m.simplices n.simplices h p.positions q.positions s.positions t.positions (lines_same d m n e) in
     same_mesh m n r.0 (simplices_fixed d m.simplices n.simplices s.corners t.corners r.1)
-
-at_most : (m : Mesh) → HasShortNumbers m → HasMachineNumbers m
-at_most m s = record {
-  positions = All-weaker (λ p. All (λ c. nat_abs c < 2 ^ 63) p) IsShort (λ p. All-weaker (λ c. nat_abs c < 2 ^ 63) (λ c. nat_abs c ≤ 2 ^ 63) (λ c h. omega (arith, h)) p) m.vertices s.positions;
-  corners = s.corners;
-}
-
-pub short_text_fixes : (d : ℕ) → 1 ≤ d → (m n : Mesh) → TextFixesMesh d m n
-short_text_fixes d h m n p q s t e = text_fixes d h m n p q (at_most m s) (at_most n t) e

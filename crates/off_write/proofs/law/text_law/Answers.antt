@@ -1,7 +1,6 @@
-use Rattle.off_write.proofs.TextLaws.{text_fixes, short_text_fixes, some_dimension}
+use Rattle.off_write.proofs.TextLaws.{text_fixes, some_dimension}
 use Rattle.off_write.proofs.law.text_law.Goals as goal
 
 pub returns : goal.returns
 returns g c =
-    let some = some_dimension g.row.D c.requires.dimension in
-    record { law = λ m n. text_fixes g.row.D some m n; short = λ m n. short_text_fixes g.row.D some m n }
+    record { law = λ m n. text_fixes g.row.D (some_dimension g.row.D c.requires.dimension) m n }
