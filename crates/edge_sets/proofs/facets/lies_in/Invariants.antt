@@ -1,0 +1,7 @@
+use Rattle.std.proofs.Common.{◌≡◌, true, take}
+use Rattle.std.specs.List.{list_all}
+use Rattle.iso_model.specs.Cells.{is_set}
+use Rattle.edge_sets.proofs.facets.lies_in.Given as goal
+
+abbrev pub invariant-loop-edge : goal.invariant-loop-edge
+invariant-loop-edge g l = list_all (is_set l.set) (take l.edge-index l.tuple) ≡ true

@@ -1,7 +1,0 @@
-use Rattle.std.proofs.Common.{◌≡◌, true, take}
-use Rattle.std.specs.List.{list_all}
-use Rattle.iso_model.specs.Cells.{is_set}
-use Rattle.table_check.proofs.facets.lies_in.Given as goal
-
-abbrev pub invariant-loop-edge : goal.invariant-loop-edge
-invariant-loop-edge g l = list_all (is_set l.set) (take l.edge-index l.tuple) ≡ true

@@ -1,5 +1,0 @@
-use Rattle.table_check.proofs.SetLaws.{AreBipolarBelow}
-use Rattle.table_check.proofs.sets.bipolar_set.Given as goal
-
-abbrev pub invariant-loop-edge : goal.invariant-loop-edge
-invariant-loop-edge l = AreBipolarBelow l.label l.set l.edge l.ends
