@@ -1,0 +1,2 @@
+mod FigureLaws
+mod SideLaws
