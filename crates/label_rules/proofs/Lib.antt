@@ -1,2 +1,2 @@
-mod FigureLaws
-mod SideLaws
+pub mod FigureLaws
+pub mod SideLaws
