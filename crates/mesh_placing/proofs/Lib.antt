@@ -1,0 +1,4 @@
+pub mod Lists
+pub mod CellEdges
+pub mod Tuples
+pub mod Shapes

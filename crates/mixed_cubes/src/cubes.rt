@@ -1,0 +1,104 @@
+//! The mixed cubes, row by row.
+
+ghost use Rattle.std.specs.Prelude.{◌≡◌, ℕ, ◌+◌, ◌-◌, ◌*◌, ◌^◌, [], ◌∷◌, ◌++◌, ◌<◌, ◌≤◌, length, filter, slice_index, unsigned_abs, All, IfOk, OnOk, if◌then◌else◌};
+ghost use Rattle.std.specs.List.{range_with_len};
+ghost use Rattle.iso_model.specs.Orders.{numbers};
+ghost use Rattle.iso_model.specs.Splits.{cube_count as count_of};
+ghost use Rattle.iso_model.specs.Values.{IsRegularGrid, product};
+ghost use Rattle.mixed_cubes.specs.Mixed.{is_mixed};
+ghost use Rattle.mixed_cubes.specs.Faces.{is_mixed_from, corner_number as corner_number_of};
+
+use crate::faces::{are_mixed, face_signs};
+use crate::places::{corner_number, cube_count, first_sample};
+use iso_base::Memory;
+use nrrd_raw::Grid;
+use std::alloc::Global;
+
+/// The numbers of the cubes of a grid that have a corner at or above the isovalue and one below it, ascending. The
+/// isovalue lies from -2^40 to 2^40.
+pub fn mixed_cubes(alloc: Global, grid: &Grid, iso: i64) -> Result<Vec<u64>, Memory>
+    requires regular { IsRegularGrid grid.now }
+    requires iso { unsigned_abs iso ≤ 2 ^ 40 }
+    ensures { IfOk result (λ cubes. cubes.items ≡ filter (is_mixed grid.now iso) (numbers (count_of grid.now.sizes))) }
+{
+    let others = &grid.sizes[1..grid.dims as usize];
+    mixed_rows(alloc, grid.sizes[0], others, grid.samples.as_slice(), iso)
+}
+
+// The mixed cubes of a grid with this size along axis 0 and those along the others.
+fn mixed_rows(
+    alloc: Global,
+    size: u64,
+    others: &[u64],
+    samples: &[i64],
+    iso: i64,
+) -> Result<Vec<u64>, Memory>
+    requires axes { length others.now ≤ 3 }
+    requires sized { All (λ n. 1 ≤ n) (size ∷ others.now) }
+    requires few { product (size ∷ others.now) ≤ 2 ^ 27 }
+    requires there { length samples.now ≡ product (size ∷ others.now) }
+    ensures { IfOk result (λ cubes. cubes.items ≡ filter (is_mixed (record { sizes = size ∷ others.now; samples = samples.now }) iso) (numbers (count_of (size ∷ others.now)))) }
+{
+    let mut cubes = Vec::new(alloc);
+    let span = size - 1;
+    let corners = face_corners(size, others);
+    let steps = &corners[..1 << others.len()];
+    for row in 0..cube_count(others) {
+        let first = size * first_sample(others, row);
+        add_row(&mut cubes, samples, steps, iso, first, row * span, span)?;
+    }
+    Ok(cubes)
+}
+
+// How far the corners of a face at right angles to axis 0 are from its first. Those of a face are as many as there are
+// sets of other axes, and come first.
+fn face_corners(size: u64, others: &[u64]) -> [u64; 8]
+    requires axes { length others.now ≤ 3 }
+    requires sized { All (λ n. 1 ≤ n) (size ∷ others.now) }
+    requires few { product (size ∷ others.now) ≤ 2 ^ 27 }
+    ensures { (k : ℕ) → k < 8 → slice_index result k ≡ size * corner_number_of others.now k }
+{
+    let mut steps = [0; 8];
+    for corner in 0..8 {
+        steps[corner] = size * corner_number(others, corner as u64);
+    }
+    steps
+}
+
+// Adds the mixed cubes of a row, whose first cube has the number `number` and whose first sample has the number `first`.
+fn add_row(
+    cubes: &mut Vec<u64>,
+    samples: &[i64],
+    steps: &[u64],
+    iso: i64,
+    first: u64,
+    number: u64,
+    span: u64,
+) -> Result<(), Memory>
+    requires row { first + span < length samples.now }
+    requires inside { (k : ℕ) → k < length steps.now → first + span + slice_index steps.now k < length samples.now }
+    requires few { length samples.now ≤ 2 ^ 27 }
+    requires numbers { number + span ≤ 2 ^ 27 }
+    ensures { OnOk result (cubes.new.items ≡ cubes.old.items ++ filter (λ c. is_mixed_from iso samples.now steps.now (first + (c - number))) (range_with_len number span)) }
+{
+    let mut near = face_signs(samples, steps, first, iso);
+    for place in 0..span {
+        let far = face_signs(samples, steps, first + place + 1, iso);
+        push_if(cubes, number + place, are_mixed(near, far))?;
+        near = far;
+    }
+    Ok(())
+}
+
+// Adds a cube where the test holds.
+fn push_if(cubes: &mut Vec<u64>, cube: u64, test: bool) -> Result<(), Memory>
+    ensures { OnOk result (cubes.new.items ≡ cubes.old.items ++ (if test then cube ∷ [] else [])) }
+{
+    if !test {
+        return Ok(());
+    }
+    match cubes.push(cube) {
+        Ok(()) => Ok(()),
+        Err(_) => Err(Memory),
+    }
+}
