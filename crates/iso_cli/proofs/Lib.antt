@@ -1,2 +1,3 @@
 pub mod Taking
-pub mod Named
+pub mod Refusing
+pub mod Answering

@@ -1,12 +1,12 @@
 -- Bytes taken off the front of known bytes.
-use Rattle.std.proofs.Common.{◌≡◌, ℕ, ◌+◌, ◌≤◌, ◌<◌, length, List, [], ◌++◌, take, Option, Some, None, Ok, append_assoc, refl, arith, sym, subst, ◌∙◌, ap, rules, min}
+use Rattle.std.proofs.Common.{◌≡◌, ℕ, ◌+◌, ◌≤◌, ◌<◌, length, List, ◌++◌, take, Option, Some, None, Ok, append_assoc, arith, subst, ◌∙◌, ap}
 use Rattle.std.proofs.lemmas.List.{take_all, length-take}
 use Rattle.std.proofs.lemmas.Option.{none-some}
 use Rattle.std.specs.Prelude.{unwrap_or}
 use Rattle.iso_base.specs.declared.outside.Failed.{Failed}
 use Rattle.iso_base.specs.Files.{Files, bytes_of, BeginsFile}
-use Rattle.std.specs.Io.KnownBytes.{Consumes, Keeps, IsAtEnd}
-use Rattle.iso_cli.specs.Shelves.{AreFrontOf, TakesAtMost}
+use Rattle.std.specs.Io.KnownBytes.{Consumes}
+use Rattle.iso_cli.specs.Shelves.{AreFrontOf}
 
 -- some bytes, and then more of them
 pub Consumes_more : (a b c : Option (List ℕ)) (xs ys : List ℕ) → Consumes a b xs → Consumes b c ys → Consumes a c (xs ++ ys)
@@ -14,13 +14,6 @@ Consumes_more None b c xs ys p q = tt
 Consumes_more (Some a) None c xs ys p q = absurd p
 Consumes_more (Some a) (Some b) None xs ys p q = absurd q
 Consumes_more (Some a) (Some b) (Some c) xs ys p q = let f = append_assoc xs ys c in cc
-
--- nothing more was taken
-pub Consumes_keeps : (a b c : Option (List ℕ)) (xs : List ℕ) → Consumes a b xs → Keeps b c → Consumes a c xs
-Consumes_keeps None b c xs p q = tt
-Consumes_keeps (Some a) None c xs p q = absurd p
-Consumes_keeps (Some a) (Some b) None xs p q = absurd q
-Consumes_keeps (Some a) (Some b) (Some c) xs p q = cc
 
 -- what is there
 Some-same : (x y : List ℕ) → Some x ≡ Some y → x ≡ y

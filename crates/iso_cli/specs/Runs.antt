@@ -1,22 +1,58 @@
--- What a run of the program promises of its answer, for each status and each sentence a word.
-use Rattle.std.specs.Prelude.{◌≡◌, ◌≤◌, ℕ, ℤ, List, [], ◌∷◌, Option, Some, IsSome, ⊤}
+-- What a run of the program promises: its answer, what it leaves of the shelf, what it puts to the output, and the line.
+use Rattle.std.specs.Prelude.{◌≡◌, ◌≤◌, ℕ, List, [], ◌∷◌, Option, None, IsSome, IsTrue, ⊤, ◌⊎◌}
 use Rattle.std.specs.List.{AllByRecursion}
 use Rattle.std.specs.Io.KnownBytes.{Appends}
 use Rattle.iso_base.specs.Faults.{Rose}
 use Rattle.iso_base.specs.Files.{Files, bytes_of}
 use Rattle.iso_base.specs.Fronts.{AppendsFront}
-use Rattle.iso_model.specs.Commands.{Command, Say, SayExtract, generate_command, check_command, extract_command, demo_command}
+use Rattle.iso_model.specs.Commands.{Command, Say, generate_command, check_command, extract_command, demo_command, AreRight, IsWrongWord}
 use Rattle.iso_model.specs.Faces.{Mesh, IsMesh}
 use Rattle.iso_model.specs.MeshText.{mesh_text}
-use Rattle.iso_model.specs.TableFile.{IsTooLong, IsWholeTable, TableFault, HasTableFault, magic_fault, kind_fault, edge_fault, short_fault, extra_fault}
+use Rattle.iso_model.specs.Tables.{Table}
+use Rattle.iso_model.specs.Values.{Grid}
+use Rattle.iso_words.specs.Built.{is_built}
 use Rattle.iso_cli.specs.declared.status.Status.{Status}
 use Rattle.iso_cli.specs.declared.status.Status.TheVariants as Statuses
-use Rattle.iso_cli.specs.declared.status.TableForm.{TableForm}
-use Rattle.iso_cli.specs.declared.status.TableForm.TheVariants as Forms
-use Rattle.iso_cli.specs.declared.status.TableCause.{TableCause}
-use Rattle.iso_cli.specs.declared.status.TableCause.TheVariants as TableCauses
+use Rattle.iso_cli.specs.Refusals.{FileHas, HoldTable, HoldBoth, IsRefusedMesh}
+use Rattle.iso_cli.specs.Shelves.{IsSameShelf, BlamesShelf}
+use Rattle.iso_cli.specs.Statuses.{IsDecided, IsRefusal, IsShelfFault, IsUsage}
+use Rattle.iso_cli.specs.StatusLines.{status_line}
 
--- ---- the files
+-- the words say a command that is built, and this holds of it
+abbrev pub SayBuilt : List (List ℕ) → (Command → Type 0) → Type 0
+SayBuilt words P = (command : Command) × IsTrue (is_built command) × Say words command × P command
+
+-- ---- the answer
+
+-- the files of a command are refused with this status
+abbrev pub AreRefused : Option Files → Status → Command → Type 0
+AreRefused files status (generate_command kind d) = ⊥
+AreRefused files status (check_command table) = ⊥
+AreRefused files status (extract_command table grid iso) = IsRefusedMesh files table grid status
+AreRefused files status (demo_command kind d size seed) = ⊥
+
+-- no refusal holds of a command, and what it asks for is not built yet
+abbrev pub IsNotYet : Option Files → Command → Type 0
+IsNotYet files (generate_command kind d) = ⊥
+IsNotYet files (check_command table) = ⊤
+IsNotYet files (extract_command table grid iso) = (t : Table) × (g : Grid) × HoldBoth files table grid t g
+IsNotYet files (demo_command kind d size seed) = ⊥
+
+-- where the status is a refusal that the files decide, it is the one that they decide for the command
+pub record IsTrueOf (files : Option Files) (status : Status) (command : Command) : Type 0 where
+  pub refused : IsDecided status → AreRefused files status command
+  pub not_yet : status ≡ Statuses.NotYet → IsNotYet files command
+
+-- the answer is true of the words and of the files: the words are refused at the first wrong one, and else they say a command, and the files are refused as the status says
+abbrev pub IsTrueAnswer : Option Files → List (List ℕ) → Status → Type 0
+IsTrueAnswer files words (Statuses.Usage place) = IsWrongWord is_built words place
+IsTrueAnswer files words status = SayBuilt words (IsTrueOf files status)
+
+-- the words are right, and no refusal holds of them and the files, nor is what they ask for left unbuilt
+abbrev pub IsAnswerable : Option Files → List (List ℕ) → Type 0
+IsAnswerable files words = AreRight is_built words × ((status : Status) → IsDecided status ⊎ (status ≡ Statuses.NotYet) → ¬ IsTrueAnswer files words status)
+
+-- ---- the shelf
 
 -- the names of the files that a command reads
 abbrev pub files_named : Command → List (List ℕ)
@@ -25,53 +61,33 @@ files_named (check_command table) = table ∷ []
 files_named (extract_command table grid iso) = table ∷ grid ∷ []
 files_named (demo_command kind d size seed) = []
 
--- a file of this name is there
-abbrev pub HasFile : Option Files → List ℕ → Type 0
-HasFile files name = IsSome (bytes_of files name)
-
 -- each file that the words name is there
 abbrev pub HasNamedFiles : Option Files → List (List ℕ) → Type 0
-HasNamedFiles files words = (command : Command) → Say words command → AllByRecursion (HasFile files) (files_named command)
+HasNamedFiles files words = (command : Command) → Say words command → AllByRecursion (λ name. IsSome (bytes_of files name)) (files_named command)
 
--- ---- the table
+-- a file that a mesh needs is not there: that of the table; or that of the grid, where the other one holds a table
+abbrev pub LacksMeshFile : Option Files → List ℕ → List ℕ → Type 0
+LacksMeshFile files table grid =
+    (bytes_of files table ≡ None) ⊎ ((t : Table) × FileHas files table (λ bytes. HoldTable bytes t) × (bytes_of files grid ≡ None))
 
--- the bytes are those of a table, and not too many
-abbrev pub IsRightTable : List ℕ → Type 0
-IsRightTable bytes = ¬ IsTooLong bytes × IsWholeTable bytes
+-- a file that a command names is not there, and no file that is read before it is refused
+abbrev pub LacksFile : Option Files → Command → Type 0
+LacksFile files (generate_command kind d) = ⊥
+LacksFile files (check_command table) = bytes_of files table ≡ None
+LacksFile files (extract_command table grid iso) = LacksMeshFile files table grid
+LacksFile files (demo_command kind d size seed) = ⊥
 
--- the fault of a table file, by its cause and place
-abbrev pub table_fault : TableCause → ℕ → TableFault
-table_fault TableCauses.Magic place = magic_fault place
-table_fault TableCauses.Kind place = kind_fault place
-table_fault TableCauses.EdgeNumber place = edge_fault place
-table_fault TableCauses.Short place = short_fault place
-table_fault TableCauses.Extra place = extra_fault place
+-- the shelf is as it was but for its count of faults and what was taken of its files; it is blamed only where its count rose, and with the count after the run; where it was sound,
+-- only for a named file that is not there; and for wrong words it is not touched at all
+pub record LeavesShelf {S : Type 0} (faults : S → ℕ) (files : S → Option Files) (sound : S → Type 0) (words : List (List ℕ)) (status : Status) (old new : S) : Type 0 where
+  pub same : IsSameShelf faults files sound old new
+  pub blamed : BlamesShelf status (faults old) (faults new)
+  pub missing : sound old → IsShelfFault status → SayBuilt words (LacksFile (files old))
+  pub untouched : IsUsage status → new ≡ old
 
--- the bytes are no table in this way: there are too many, or else they have this fault
-abbrev pub HasForm : TableForm → List ℕ → Type 0
-HasForm Forms.Long bytes = IsTooLong bytes
-HasForm (Forms.Fault place cause) bytes = ¬ IsTooLong bytes × HasTableFault bytes (table_fault cause place)
-
--- where the status says that the bytes are no table, they are none in the way that it says
-abbrev pub IsTrueOfTable : Status → List ℕ → Type 0
-IsTrueOfTable (Statuses.TableForm form) bytes = HasForm form bytes
-IsTrueOfTable status bytes = ⊤
-
--- a file of this name is there, and holds no table
-abbrev pub HoldsNoTable : Option Files → List ℕ → Type 0
-HoldsNoTable files name = (bytes : List ℕ) × (bytes_of files name ≡ Some bytes) × ¬ IsRightTable bytes
-
--- the words ask for a mesh, by a file that is there and holds no table
-abbrev pub NamesNoTable : Option Files → List (List ℕ) → Type 0
-NamesNoTable files words = (table : List ℕ) × (grid : List ℕ) × (iso : ℤ) × SayExtract words table grid iso × HoldsNoTable files table
-
--- what holds of the bytes of a file, where the files are told
-abbrev pub FileHas : Option Files → List ℕ → (List ℕ → Type 0) → Type 0
-FileHas files name P = (bytes : List ℕ) → bytes_of files name ≡ Some bytes → P bytes
-
--- what holds of the bytes of the table by which the words ask for a mesh, where the files are told
-abbrev pub TableHas : Option Files → List (List ℕ) → (List ℕ → Type 0) → Type 0
-TableHas files words P = (table grid : List ℕ) (iso : ℤ) → SayExtract words table grid iso → FileHas files table P
+-- the shelf did not fail, or was sound and has the files that the words name
+abbrev pub ServesWell : {S : Type 0} → (S → ℕ) → (S → Option Files) → (S → Type 0) → List (List ℕ) → S → S → Type 0
+ServesWell faults files sound words old new = ¬ Rose (faults old) (faults new) ⊎ (sound old × HasNamedFiles (files old) words)
 
 -- ---- the output
 
@@ -80,10 +96,47 @@ abbrev pub BlamesOutput : Status → ℕ → ℕ → Type 0
 BlamesOutput (Statuses.WriteFault count) before now = Rose before now × (count ≡ now)
 BlamesOutput status before now = ⊤
 
--- what was put is the text of a mesh of two dimensions
-abbrev pub PutsMesh : Option (List ℕ) → Option (List ℕ) → Type 0
-PutsMesh old new = (mesh : Mesh) × IsMesh 2 mesh × Appends old new (mesh_text 2 mesh)
+-- the text of a mesh of two dimensions, where the files hold a table and a grid of two dimensions
+pub record IsMeshText (files : Option Files) (table grid text : List ℕ) : Type 0 where
+  pub t : Table
+  pub g : Grid
+  pub held : HoldBoth files table grid t g
+  pub mesh : Mesh
+  pub is_mesh : IsMesh 2 mesh
+  pub spelled : text ≡ mesh_text 2 mesh
 
--- what was put is a front of the text of a mesh of two dimensions
-abbrev pub PutsFrontOfMesh : Option (List ℕ) → Option (List ℕ) → Type 0
-PutsFrontOfMesh old new = (mesh : Mesh) × IsMesh 2 mesh × AppendsFront old new (mesh_text 2 mesh)
+-- this text, or a front of it, was put
+abbrev pub PutsMesh : Option Files → List ℕ → List ℕ → Option (List ℕ) → Option (List ℕ) → Type 0
+PutsMesh files table grid old new = (text : List ℕ) × IsMeshText files table grid text × Appends old new text
+
+abbrev pub PutsFrontOfMesh : Option Files → List ℕ → List ℕ → Option (List ℕ) → Option (List ℕ) → Type 0
+PutsFrontOfMesh files table grid old new = (text : List ℕ) × IsMeshText files table grid text × AppendsFront old new text
+
+-- the whole output of a command
+abbrev pub IsOutput : Option Files → List ℕ → Command → Type 0
+IsOutput files text (generate_command kind d) = ⊥
+IsOutput files text (check_command table) = ⊥
+IsOutput files text (extract_command table grid iso) = IsMeshText files table grid text
+IsOutput files text (demo_command kind d size seed) = ⊥
+
+-- after success the whole output of the command was put, and after a failure of the output a front of it
+abbrev pub PutsOutput : Option Files → List (List ℕ) → Status → Option (List ℕ) → Option (List ℕ) → Type 0
+PutsOutput files words Statuses.Done old new = (text : List ℕ) × SayBuilt words (IsOutput files text) × Appends old new text
+PutsOutput files words (Statuses.WriteFault count) old new = (text : List ℕ) × SayBuilt words (IsOutput files text) × AppendsFront old new text
+PutsOutput files words status old new = ⊤
+
+-- the output is as it was after every status but these two; it is blamed only where its count rose, and with the count after the run
+pub record LeavesOutput {O : Type 0} (faults : O → ℕ) (bytes : O → Option (List ℕ)) (files : Option Files) (words : List (List ℕ)) (status : Status) (old new : O) : Type 0 where
+  pub later : faults old ≤ faults new
+  pub blamed : BlamesOutput status (faults old) (faults new)
+  pub refused : IsRefusal status → new ≡ old
+  pub put : PutsOutput files words status (bytes old) (bytes new)
+
+-- ---- the line
+
+-- the line of the status was put where that did not fail, and else a front of it; after success nothing was
+pub record PutsLine {E : Type 0} (faults : E → ℕ) (bytes : E → Option (List ℕ)) (status : Status) (old new : E) : Type 0 where
+  pub later : faults old ≤ faults new
+  pub whole : ¬ Rose (faults old) (faults new) → Appends (bytes old) (bytes new) (status_line status)
+  pub front : AppendsFront (bytes old) (bytes new) (status_line status)
+  pub silent : status ≡ Statuses.Done → new ≡ old

@@ -1,5 +1,5 @@
 -- What a call that is lent a shelf leaves of it, and what it may blame it for.
-use Rattle.std.specs.Prelude.{◌≡◌, ◌≤◌, ℕ, List, length, take, Option, IsSome, IfSome, ⊤}
+use Rattle.std.specs.Prelude.{◌≡◌, ◌≤◌, ℕ, List, length, take, Option, IfSome, ⊤}
 use Rattle.std.specs.Io.KnownBytes.{Consumes}
 use Rattle.iso_base.specs.Faults.{Rose}
 use Rattle.iso_base.specs.Files.{Files}

@@ -1,5 +1,5 @@
 -- Kinds of statuses.
-use Rattle.std.specs.Prelude.{ℕ, ⊤}
+use Rattle.std.specs.Prelude.{⊤}
 use Rattle.iso_cli.specs.declared.status.Status.{Status}
 use Rattle.iso_cli.specs.declared.status.Status.TheVariants as Statuses
 
@@ -24,6 +24,20 @@ abbrev pub IsWriteFault : Status → Type 0
 IsWriteFault (Statuses.WriteFault count) = ⊤
 IsWriteFault status = ⊥
 
+-- a refusal that the bytes of the files decide
+abbrev pub IsDecided : Status → Type 0
+IsDecided (Statuses.TableForm form) = ⊤
+IsDecided (Statuses.GridForm cause) = ⊤
+IsDecided (Statuses.Unfit table grid) = ⊤
+IsDecided (Statuses.GridLarge count) = ⊤
+IsDecided status = ⊥
+
+-- the whole output was put, or memory was refused
+abbrev pub IsDoneOrMemory : Status → Type 0
+IsDoneOrMemory Statuses.Done = ⊤
+IsDoneOrMemory Statuses.Memory = ⊤
+IsDoneOrMemory status = ⊥
+
 -- a refusal that taking bytes of a file may end with
 abbrev pub IsOfReading : Status → Type 0
 IsOfReading Statuses.Memory = ⊤
@@ -46,13 +60,11 @@ IsOfGrid (Statuses.GridLarge count) = ⊤
 IsOfGrid (Statuses.Unfit table grid) = ⊤
 IsOfGrid status = ⊥
 
--- the run ended before the grid was begun
-abbrev pub IsBeforeGrid : Status → Type 0
-IsBeforeGrid Statuses.Memory = ⊤
-IsBeforeGrid (Statuses.Usage place) = ⊤
-IsBeforeGrid (Statuses.ShelfFault count) = ⊤
-IsBeforeGrid (Statuses.TableForm form) = ⊤
-IsBeforeGrid status = ⊥
+-- how the work on a mesh may end without success
+abbrev pub IsOfMesh : Status → Type 0
+IsOfMesh Statuses.Done = ⊥
+IsOfMesh (Statuses.Usage place) = ⊥
+IsOfMesh status = ⊤
 
 -- memory was refused, or a form is not built yet
 abbrev pub IsMemoryOrNotYet : Status → Type 0

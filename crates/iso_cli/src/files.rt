@@ -1,13 +1,13 @@
 //! The table and the grid that the words name.
 
-ghost use Rattle.std.specs.Prelude.{IsSome, IfOk, IfErr};
+ghost use Rattle.std.specs.Prelude.{◌≡◌, length, None, IfOk, IfErr};
 ghost use Rattle.iso_base.specs.Files.{bytes_of};
-ghost use Rattle.iso_model.specs.TableFile.{IsTooLong, SpellsTable};
+ghost use Rattle.iso_model.specs.GridFile.{SpellsGrid};
 ghost use Rattle.iso_model.specs.Values.{IsRegularGrid};
-ghost use Rattle.table_file.specs.Reading.{table_in};
-ghost use Rattle.iso_cli.specs.Shelves.{IsSameShelf, BlamesShelf};
-ghost use Rattle.iso_cli.specs.Statuses.{IsOfGrid, IsOfTable, IsShelfFault};
-ghost use Rattle.iso_cli.specs.Runs.{FileHas, IsTrueOfTable};
+ghost use Rattle.table_file.specs.Reading.{HasOwnDimension, table_in};
+ghost use Rattle.iso_cli.specs.Refusals.{FileHas, HoldTable, IsRefusedGrid, IsRefusedTable};
+ghost use Rattle.iso_cli.specs.Shelves.{BlamesShelf, IsSameShelf};
+ghost use Rattle.iso_cli.specs.Statuses.{IsDecided, IsOfGrid, IsOfTable, IsShelfFault};
 
 use crate::read::read_front;
 use crate::status::{Status, TableForm};
@@ -22,11 +22,12 @@ const TABLE_LIMIT: usize = 1 << 30;
 /// Reads the table of a file.
 pub fn read_table<S: Shelf>(alloc: Global, shelf: &mut S, name: &str) -> Result<AnyTable, Status>
     ensures shelf { IsSameShelf S.faults S.files S.sound shelf.old shelf.new }
-    ensures fault { IfErr result (λ status. BlamesShelf status (S.faults shelf.old) (S.faults shelf.new)) }
-    ensures sound { S.sound shelf.old → IsSome (bytes_of (S.files shelf.old) name.now) → IfErr result (λ status. ¬ IsShelfFault status) }
-    ensures refused { IfErr result IsOfTable }
-    ensures form { FileHas (S.files shelf.old) name.now (λ bytes. IfErr result (λ status. IsTrueOfTable status bytes)) }
-    ensures table { FileHas (S.files shelf.old) name.now (λ bytes. IfOk result (λ table. ¬ IsTooLong bytes × SpellsTable bytes (table_in table))) }
+    ensures blamed { IfErr result (λ status. BlamesShelf status (S.faults shelf.old) (S.faults shelf.new)) }
+    ensures missing { S.sound shelf.old → IfErr result (λ status. IsShelfFault status → bytes_of (S.files shelf.old) name.now ≡ None) }
+    ensures kinds { IfErr result IsOfTable }
+    ensures refused { IfErr result (λ status. IsDecided status → FileHas (S.files shelf.old) name.now (λ bytes. IsRefusedTable bytes status)) }
+    ensures held { IfOk result (λ table. FileHas (S.files shelf.old) name.now (λ bytes. HoldTable bytes (table_in table))) }
+    ensures dimension { IfOk result HasOwnDimension }
 {
     shelf.begin(name)?;
     let bytes = read_front(alloc, shelf, TABLE_LIMIT + 1)?;
@@ -44,9 +45,12 @@ pub fn read_grid<S: Shelf>(
     dimension: u8,
 ) -> Result<Grid, Status>
     ensures shelf { IsSameShelf S.faults S.files S.sound shelf.old shelf.new }
-    ensures fault { IfErr result (λ status. BlamesShelf status (S.faults shelf.old) (S.faults shelf.new)) }
-    ensures sound { S.sound shelf.old → IsSome (bytes_of (S.files shelf.old) name.now) → IfErr result (λ status. ¬ IsShelfFault status) }
-    ensures refused { IfErr result IsOfGrid }
+    ensures blamed { IfErr result (λ status. BlamesShelf status (S.faults shelf.old) (S.faults shelf.new)) }
+    ensures missing { S.sound shelf.old → IfErr result (λ status. IsShelfFault status → bytes_of (S.files shelf.old) name.now ≡ None) }
+    ensures kinds { IfErr result IsOfGrid }
+    ensures refused { IfErr result (λ status. IsDecided status → FileHas (S.files shelf.old) name.now (λ bytes. IsRefusedGrid dimension bytes status)) }
+    ensures held { IfOk result (λ grid. FileHas (S.files shelf.old) name.now (λ bytes. SpellsGrid bytes grid)) }
+    ensures fits { IfOk result (λ grid. dimension ≡ length grid.sizes) }
     ensures regular { IfOk result IsRegularGrid }
 {
     shelf.begin(name)?;

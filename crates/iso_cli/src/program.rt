@@ -1,17 +1,17 @@
 //! The top call.
 
-ghost use Rattle.std.specs.Prelude.{◌≡◌, ◌≤◌, ℕ, OnOk, IfErr, IfOk, MatchResult};
+ghost use Rattle.std.specs.Prelude.{◌≡◌, ◌≤◌, ◌⊎◌, OnOk, IfErr, IfOk};
 ghost use Rattle.std.specs.Io.KnownBytes.{Appends};
 ghost use Rattle.iso_base.specs.Faults.{Rose};
 ghost use Rattle.iso_base.specs.Fronts.{AppendsFront};
-ghost use Rattle.iso_model.specs.Commands.{AreRight, IsWrongWord};
+ghost use Rattle.iso_model.specs.Commands.{extract_command};
 ghost use Rattle.iso_model.specs.Faces.{IsMesh};
 ghost use Rattle.iso_model.specs.Values.{IsRegularGrid};
-ghost use Rattle.iso_words.specs.Built.{is_built, texts};
-ghost use Rattle.iso_cli.specs.Runs.{HasFile, HasNamedFiles, FileHas, TableHas, HoldsNoTable, NamesNoTable, IsRightTable, IsTrueOfTable, BlamesOutput, PutsMesh, PutsFrontOfMesh};
+ghost use Rattle.iso_words.specs.Built.{texts};
+ghost use Rattle.table_file.specs.Reading.{HasOwnDimension, table_in};
+ghost use Rattle.iso_cli.specs.Runs.{BlamesOutput, IsTrueAnswer, IsTrueOf, LacksMeshFile, LeavesOutput, LeavesShelf, IsAnswerable, PutsFrontOfMesh, PutsLine, PutsMesh, ServesWell};
 ghost use Rattle.iso_cli.specs.Shelves.{IsSameShelf, BlamesShelf};
-ghost use Rattle.iso_cli.specs.Statuses.{IsBeforeGrid, IsMemoryOrNotYet, IsRefusal, IsShelfFault, IsUsage, IsWriteFault};
-ghost use Rattle.iso_cli.specs.StatusLines.{status_line};
+ghost use Rattle.iso_cli.specs.Statuses.{IsDecided, IsDoneOrMemory, IsMemoryOrNotYet, IsOfMesh, IsRefusal, IsShelfFault, IsWriteFault};
 
 use crate::files::{read_grid, read_table};
 use crate::line::status_text;
@@ -36,32 +36,17 @@ pub fn run<S: Shelf, O: Sink, E: Sink>(
     out: &mut O,
     err: &mut E,
 ) -> Status
-    // The words.
-    ensures usage { (place : ℕ) → result ≡ Status.Usage place → IsWrongWord is_built (texts words.now) place × (shelf.new ≡ shelf.old) }
-    ensures wrong_words { ¬ AreRight is_built (texts words.now) → IsUsage result }
+    ensures answer { IsTrueAnswer (S.files shelf.old) (texts words.now) result }
 
-    // The table.
-    ensures table_form { TableHas (S.files shelf.old) (texts words.now) (IsTrueOfTable result) }
-    ensures past_table { ¬ IsBeforeGrid result → TableHas (S.files shelf.old) (texts words.now) IsRightTable }
+    // Where the outside serves well and no refusal holds, the output is whole, or memory was refused.
+    ensures complete { ¬ Rose (O.faults out.old) (O.faults out.new)
+        → ServesWell S.faults S.files S.sound (texts words.now) shelf.old shelf.new
+        → IsAnswerable (S.files shelf.old) (texts words.now)
+        → IsDoneOrMemory result }
 
-    // The shelf.
-    ensures shelf { IsSameShelf S.faults S.files S.sound shelf.old shelf.new }
-    ensures shelf_fault { BlamesShelf result (S.faults shelf.old) (S.faults shelf.new) }
-    ensures sound_shelf { S.sound shelf.old → HasNamedFiles (S.files shelf.old) (texts words.now) → ¬ IsShelfFault result }
-    ensures table_first { S.sound shelf.old → NamesNoTable (S.files shelf.old) (texts words.now) → ¬ IsShelfFault result }
-
-    // The output.
-    ensures out_later { O.faults out.old ≤ O.faults out.new }
-    ensures write_fault { BlamesOutput result (O.faults out.old) (O.faults out.new) }
-    ensures refused { IsRefusal result → out.new ≡ out.old }
-    ensures done { result ≡ Status.Done → PutsMesh (O.bytes out.old) (O.bytes out.new) }
-    ensures front { IsWriteFault result → PutsFrontOfMesh (O.bytes out.old) (O.bytes out.new) }
-
-    // The line of the status.
-    ensures err_later { E.faults err.old ≤ E.faults err.new }
-    ensures line { ¬ Rose (E.faults err.old) (E.faults err.new) → Appends (E.bytes err.old) (E.bytes err.new) (status_line result) }
-    ensures line_front { AppendsFront (E.bytes err.old) (E.bytes err.new) (status_line result) }
-    ensures silent { result ≡ Status.Done → err.new ≡ err.old }
+    ensures shelf { LeavesShelf S.faults S.files S.sound (texts words.now) result shelf.old shelf.new }
+    ensures output { LeavesOutput O.faults O.bytes (S.files shelf.old) (texts words.now) result out.old out.new }
+    ensures line { PutsLine E.faults E.bytes result err.old err.new }
 {
     let status = perform(alloc, words, shelf, out);
     if status != Status::Done {
@@ -73,19 +58,9 @@ pub fn run<S: Shelf, O: Sink, E: Sink>(
 
 // What the words ask.
 fn perform<S: Shelf, O: Sink>(alloc: Global, words: &[String], shelf: &mut S, out: &mut O) -> Status
-    ensures usage { (place : ℕ) → result ≡ Status.Usage place → IsWrongWord is_built (texts words.now) place × (shelf.new ≡ shelf.old) }
-    ensures wrong_words { ¬ AreRight is_built (texts words.now) → IsUsage result }
-    ensures table_form { TableHas (S.files shelf.old) (texts words.now) (IsTrueOfTable result) }
-    ensures past_table { ¬ IsBeforeGrid result → TableHas (S.files shelf.old) (texts words.now) IsRightTable }
-    ensures shelf { IsSameShelf S.faults S.files S.sound shelf.old shelf.new }
-    ensures shelf_fault { BlamesShelf result (S.faults shelf.old) (S.faults shelf.new) }
-    ensures sound_shelf { S.sound shelf.old → HasNamedFiles (S.files shelf.old) (texts words.now) → ¬ IsShelfFault result }
-    ensures table_first { S.sound shelf.old → NamesNoTable (S.files shelf.old) (texts words.now) → ¬ IsShelfFault result }
-    ensures out_later { O.faults out.old ≤ O.faults out.new }
-    ensures write_fault { BlamesOutput result (O.faults out.old) (O.faults out.new) }
-    ensures refused { IsRefusal result → out.new ≡ out.old }
-    ensures done { result ≡ Status.Done → PutsMesh (O.bytes out.old) (O.bytes out.new) }
-    ensures front { IsWriteFault result → PutsFrontOfMesh (O.bytes out.old) (O.bytes out.new) }
+    ensures answer { IsTrueAnswer (S.files shelf.old) (texts words.now) result }
+    ensures shelf { LeavesShelf S.faults S.files S.sound (texts words.now) result shelf.old shelf.new }
+    ensures output { LeavesOutput O.faults O.bytes (S.files shelf.old) (texts words.now) result out.old out.new }
 {
     match parse(words) {
         Ok(Command::Extract { table, grid, iso }) => match extract(
@@ -108,19 +83,16 @@ fn extract<S: Shelf, O: Sink>(
     shelf: &mut S,
     out: &mut O,
 ) -> Result<(), Status>
-    ensures known { IfErr result (λ status. ¬ IsUsage status) }
-    ensures table_form { FileHas (S.files shelf.old) table.now (λ bytes. IfErr result (λ status. IsTrueOfTable status bytes)) }
-    ensures past_table { FileHas (S.files shelf.old) table.now (λ bytes. MatchResult result (λ _. IsRightTable bytes) (λ status. ¬ IsBeforeGrid status → IsRightTable bytes)) }
+    ensures kinds { IfErr result IsOfMesh }
+    ensures answer { IfErr result (λ status. IsTrueOf (S.files shelf.old) status (extract_command table.now grid.now iso)) }
     ensures shelf { IsSameShelf S.faults S.files S.sound shelf.old shelf.new }
-    ensures shelf_fault { IfErr result (λ status. BlamesShelf status (S.faults shelf.old) (S.faults shelf.new)) }
-    ensures sound_shelf { S.sound shelf.old → HasFile (S.files shelf.old) table.now → HasFile (S.files shelf.old) grid.now → IfErr result (λ status. ¬ IsShelfFault status) }
-    ensures table_first { S.sound shelf.old → HoldsNoTable (S.files shelf.old) table.now → IfErr result (λ status. ¬ IsShelfFault status) }
+    ensures blamed { IfErr result (λ status. BlamesShelf status (S.faults shelf.old) (S.faults shelf.new)) }
+    ensures missing { S.sound shelf.old → IfErr result (λ status. IsShelfFault status → LacksMeshFile (S.files shelf.old) table.now grid.now) }
     ensures out_later { O.faults out.old ≤ O.faults out.new }
-    ensures write_fault { IfErr result (λ status. BlamesOutput status (O.faults out.old) (O.faults out.new)) }
-    ensures refused { IfErr result (λ status. IsRefusal status → out.new ≡ out.old) }
-    ensures failed { IfErr result (λ status. ¬ (status ≡ Status.Done)) }
-    ensures done { OnOk result (PutsMesh (O.bytes out.old) (O.bytes out.new)) }
-    ensures front { IfErr result (λ status. IsWriteFault status → PutsFrontOfMesh (O.bytes out.old) (O.bytes out.new)) }
+    ensures out_blamed { IfErr result (λ status. BlamesOutput status (O.faults out.old) (O.faults out.new)) }
+    ensures untouched { IfErr result (λ status. IsRefusal status → out.new ≡ out.old) }
+    ensures done { OnOk result (PutsMesh (S.files shelf.old) table.now grid.now (O.bytes out.old) (O.bytes out.new)) }
+    ensures front { IfErr result (λ status. IsWriteFault status → PutsFrontOfMesh (S.files shelf.old) table.now grid.now (O.bytes out.old) (O.bytes out.new)) }
 {
     let table = read_table(alloc, shelf, table)?;
     let grid = read_grid(alloc, shelf, grid, dimension(&table))?;
@@ -130,7 +102,10 @@ fn extract<S: Shelf, O: Sink>(
 }
 
 // The dimension of a table's cells.
-fn dimension(table: &AnyTable) -> u8 {
+fn dimension(table: &AnyTable) -> u8
+    requires { HasOwnDimension table.now }
+    ensures { result ≡ (table_in table.now).dimension }
+{
     match table {
         AnyTable::T2(_) => 2,
         AnyTable::T3(_) => 3,

@@ -31,6 +31,24 @@ const SQUARE: [u8; 112] = [
 
 const HEADER: &str = "NRRD0001\ntype: uint8\ndimension: 2\nsizes: 2 2\nencoding: raw\n\n";
 
+// A header as a scanner's tools write it: comments, a pair, fields that are passed over, and CR LF.
+const SCANNED: &str = "NRRD0004\r
+# Complete NRRD file format specification at:\r
+# http://teem.sourceforge.net/nrrd/format.html\r
+content: sample\r
+type: unsigned char\r
+dimension: 3\r
+space: left-posterior-superior\r
+sizes: 2 2 2\r
+space directions: (1,0,0) (0,1,0) (0,0,1)\r
+kinds: domain domain domain\r
+endian: little\r
+encoding: raw\r
+space origin: (0,0,0)\r
+operator:=first trial\r
+\r
+";
+
 const WORDS: &str = "extract table=square.tab grid=first.nrrd iso=5";
 
 const FIRST: &str = "nOFF\n2\n2 1 0\n0.500000 0.000000\n0.000000 0.500000\n2 0 1\n";
@@ -42,6 +60,7 @@ struct Case<'a> {
     header: &'a str,
     samples: &'a [u8],
     shelf_fails: &'a [u64],
+    shelf_step: usize,
     out_fails: &'a [u64],
     out_step: usize,
     status: Status,
@@ -55,6 +74,7 @@ const fn extracts<'a>(header: &'a str, samples: &'a [u8], out: &'a str) -> Case<
         header,
         samples,
         shelf_fails: &[],
+        shelf_step: 1000,
         out_fails: &[],
         out_step: 64,
         status: Status::Done,
@@ -75,6 +95,7 @@ const fn refuses<'a>(
         header,
         samples,
         shelf_fails: &[],
+        shelf_step: 1000,
         out_fails: &[],
         out_step: 64,
         status,
@@ -109,7 +130,7 @@ fn shelf_of(alloc: Global, case: &Case) -> Result<MemShelf, AllocError> {
     files.push(file(alloc, "square.tab", &SQUARE, &[])?)?;
     files.push(file(alloc, "first.nrrd", case.header.as_bytes(), case.samples)?)?;
     let fails = Vec::from_slice(alloc, case.shelf_fails)?;
-    Ok(MemShelf::new(files, fails, 1000))
+    Ok(MemShelf::new(files, fails, case.shelf_step.max(1)))
 }
 
 // Runs the case, and compares the status and what was put.
@@ -130,6 +151,11 @@ fn check(rt: &impl Abort, alloc: Global, number: usize, case: &Case) -> Result<(
 fn squares_have_their_segments(rt: HostRuntime) -> Result<(), Fail> {
     let cases = [
         extracts(HEADER, &[10, 0, 0, 0], FIRST),
+        extracts(
+            "NRRD0001\ntype: int8\ndimension: 2\nsizes: 2 2\nencoding: raw\n\n",
+            &[10, 0, 0, 0],
+            FIRST,
+        ),
         // the ambiguous square: its positive corners are joined
         extracts(
             HEADER,
@@ -239,8 +265,8 @@ fn refusals_put_their_line(rt: HostRuntime) -> Result<(), Fail> {
         ),
         refuses(
             WORDS,
-            "NRRD0001\ntype: uint8\ndimension: 3\nsizes: 2 2 1\nencoding: raw\n\n",
-            &samples,
+            SCANNED,
+            &[10, 0, 0, 0, 0, 0, 0, 0],
             Status::Unfit { table: 2, grid: 3 },
             "unfit: table 2 grid 3\n",
         ),
@@ -251,16 +277,6 @@ fn refusals_put_their_line(rt: HostRuntime) -> Result<(), Fail> {
             Status::GridLarge(268435456),
             "grid large: 268435456\n",
         ),
-        Case {
-            shelf_fails: &[1],
-            ..refuses(
-                WORDS,
-                HEADER,
-                &samples,
-                Status::ShelfFault(1),
-                "shelf fault: 1\n",
-            )
-        },
         Case {
             out_step: 1,
             out_fails: &[1],
@@ -276,6 +292,38 @@ fn refusals_put_their_line(rt: HostRuntime) -> Result<(), Fail> {
     ];
     for (number, case) in cases.iter().enumerate() {
         check(&rt, rt.alloc(), number, case)?;
+    }
+    Ok(())
+}
+
+// The calls of the shelf: to begin each file, and to take its bytes, of which the header's come one at a time, up to
+// its end.
+#[test]
+fn each_call_of_the_shelf_may_fail(rt: HostRuntime) -> Result<(), Fail> {
+    for (step, calls) in [
+        (1, 1 + 112 + 1 + 1 + 60 + 4 + 1),
+        (1000, 1 + 1 + 1 + 1 + 60 + 1 + 1),
+    ] {
+        for number in 0..calls {
+            let case = Case {
+                shelf_fails: &[number],
+                shelf_step: step,
+                ..refuses(
+                    WORDS,
+                    HEADER,
+                    &[10, 0, 0, 0],
+                    Status::ShelfFault(1),
+                    "shelf fault: 1\n",
+                )
+            };
+            check(&rt, rt.alloc(), number as usize, &case)?;
+        }
+        let case = Case {
+            shelf_fails: &[calls],
+            shelf_step: step,
+            ..extracts(HEADER, &[10, 0, 0, 0], FIRST)
+        };
+        check(&rt, rt.alloc(), calls as usize, &case)?;
     }
     Ok(())
 }

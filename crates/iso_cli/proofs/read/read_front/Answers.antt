@@ -1,4 +1,4 @@
-use Rattle.std.proofs.Common.{rules, ◌≡◌, ◌≤◌, length, ℕ, ◌+◌, ◌-◌, ◌++◌, take, arith, length-append}
+use Rattle.std.proofs.Common.{◌++◌, take, arith}
 use Rattle.std.proofs.lemmas.Grind.{common_steps}
 use Rattle.iso_cli.proofs.Taking.{Consumes_more}
 use Rattle.iso_cli.proofs.read.read_front.Goals as goal

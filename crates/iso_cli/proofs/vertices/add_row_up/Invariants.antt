@@ -1,4 +1,4 @@
-use Rattle.std.proofs.Common.{◌≡◌, ◌≤◌, ◌+◌, vec_len}
+use Rattle.std.proofs.Common.{◌≡◌, ◌+◌, vec_len}
 use Rattle.iso_cli.proofs.vertices.add_row_up.Given as goal
 
 abbrev pub invariant-loop-column : goal.invariant-loop-column

@@ -1,4 +1,4 @@
-use Rattle.std.proofs.Common.{◌≡◌, ◌≤◌, ◌+◌, ◌-◌, vec_len, length}
+use Rattle.std.proofs.Common.{◌≡◌, ◌≤◌, ◌-◌, vec_len, length}
 use Rattle.iso_cli.proofs.vertices.find_vertices.Given as goal
 
 abbrev pub invariant-loop-start : goal.invariant-loop-start

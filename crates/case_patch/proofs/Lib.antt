@@ -1,0 +1,12 @@
+pub mod SmallPoints
+pub mod LabelPoints
+pub mod FacetSets
+pub mod OffSets
+pub mod PulledSame
+pub mod AddedTuples
+pub mod OrderedTuples
+pub mod PulledTuples
+pub mod Rows
+pub mod Lists
+pub mod Narrow
+pub mod FacetMembers

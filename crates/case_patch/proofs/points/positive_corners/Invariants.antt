@@ -1,0 +1,8 @@
+use Rattle.std.proofs.Common.{◌≡◌, filter}
+use Rattle.iso_model.specs.Orders.{numbers}
+use Rattle.iso_model.specs.Cells.{is_set}
+use Rattle.case_patch.proofs.points.positive_corners.Given as goal
+
+-- the positive corners so far
+abbrev pub invariant-loop-corner : goal.invariant-loop-corner
+invariant-loop-corner g l = l.corners.items ≡ filter (is_set l.label) (numbers l.corner)

@@ -1,0 +1,3 @@
+pub mod BoundarySets
+pub mod Tuples
+pub mod SideRows

@@ -1,0 +1,9 @@
+use Rattle.std.proofs.Common.{ap, ◌==◌, w32}
+use Rattle.std.proofs.lemmas.Nat.Bits.{bit_at_set_same, bit_at_set_other}
+use Rattle.face_tallies.proofs.signs.with_edge.Goals as goal
+
+pub returns-clause-same : goal.returns-clause-same
+returns-clause-same c = ap (λ n. n == 1) (bit_at_set_same w32 c.args.set c.args.edge c.requires)
+
+pub returns-clause-others : goal.returns-clause-others
+returns-clause-others c = λ e ne. ap (λ n. n == 1) (bit_at_set_other w32 c.args.set c.args.edge c.requires e ne)

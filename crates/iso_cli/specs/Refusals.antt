@@ -1,0 +1,80 @@
+-- Which refusals the bytes of the files decide, and what the files hold where they decide none.
+use Rattle.std.specs.Prelude.{◌≡◌, ◌≢◌, ℕ, List, length, Option, Some, None, ⊤}
+use Rattle.iso_base.specs.Files.{Files, file_bytes}
+use Rattle.iso_model.specs.GridFile.{Header, HasHeader, SpellsGrid}
+use Rattle.iso_model.specs.GridFaults.{GridFault, HasHeaderFault, HasSampleFault, wrong_magic, header_too_long, header_unended, unreadable_line, repeated_field, wrong_type, wrong_dimension, wrong_sizes, wrong_encoding, wrong_endian, wrong_skip, detached_data, missing_field, sizes_too_large, data_too_short, data_trailing}
+use Rattle.iso_model.specs.Tables.{Table}
+use Rattle.iso_model.specs.TableFile.{IsTooLong, SpellsTable, TableFault, HasTableFault, magic_fault, kind_fault, edge_fault, short_fault, extra_fault}
+use Rattle.iso_model.specs.Values.{Grid}
+use Rattle.iso_cli.specs.declared.status.Status.{Status}
+use Rattle.iso_cli.specs.declared.status.Status.TheVariants as Statuses
+use Rattle.iso_cli.specs.declared.status.TableForm.TheVariants as Forms
+use Rattle.iso_cli.specs.declared.status.TableCause.TheVariants as TableCauses
+use Rattle.iso_cli.specs.declared.status.GridCause.TheVariants as GridCauses
+
+-- where the files are told, a file of this name is there, and this holds of its bytes
+abbrev pub FileHas : Option Files → List ℕ → (List ℕ → Type 0) → Type 0
+FileHas None name P = ⊤
+FileHas (Some files) name P = (bytes : List ℕ) × (file_bytes files name ≡ Some bytes) × P bytes
+
+-- ---- the table
+
+-- the bytes are those of the table, and not too many
+pub record HoldTable (bytes : List ℕ) (t : Table) : Type 0 where
+  pub few : ¬ IsTooLong bytes
+  pub spelled : SpellsTable bytes t
+
+-- the refusal of bytes that have this fault
+abbrev pub table_refusal : TableFault → Status
+table_refusal (magic_fault place) = Statuses.TableForm (Forms.Fault place TableCauses.Magic)
+table_refusal (kind_fault place) = Statuses.TableForm (Forms.Fault place TableCauses.Kind)
+table_refusal (edge_fault place) = Statuses.TableForm (Forms.Fault place TableCauses.EdgeNumber)
+table_refusal (short_fault place) = Statuses.TableForm (Forms.Fault place TableCauses.Short)
+table_refusal (extra_fault place) = Statuses.TableForm (Forms.Fault place TableCauses.Extra)
+
+-- the bytes of a table file are refused: there are too many, or else they have a fault
+pub data IsRefusedTable (bytes : List ℕ) : Status → Type 0 where
+  too_long : IsTooLong bytes → IsRefusedTable bytes (Statuses.TableForm Forms.Long)
+  no_table : (fault : TableFault) → ¬ IsTooLong bytes → HasTableFault bytes fault → IsRefusedTable bytes (table_refusal fault)
+
+-- ---- the grid
+
+-- the refusal of bytes that have this cause
+abbrev pub grid_refusal : GridFault → Status
+grid_refusal wrong_magic = Statuses.GridForm GridCauses.Magic
+grid_refusal header_too_long = Statuses.GridForm GridCauses.HeaderLong
+grid_refusal header_unended = Statuses.GridForm GridCauses.HeaderEnd
+grid_refusal (unreadable_line line) = Statuses.GridForm (GridCauses.Line line)
+grid_refusal (repeated_field line) = Statuses.GridForm (GridCauses.Repeated line)
+grid_refusal (wrong_type line) = Statuses.GridForm (GridCauses.SampleType line)
+grid_refusal (wrong_dimension line) = Statuses.GridForm (GridCauses.Dimension line)
+grid_refusal (wrong_sizes line) = Statuses.GridForm (GridCauses.Sizes line)
+grid_refusal (wrong_encoding line) = Statuses.GridForm (GridCauses.Encoding line)
+grid_refusal (wrong_endian line) = Statuses.GridForm (GridCauses.Endian line)
+grid_refusal (wrong_skip line) = Statuses.GridForm (GridCauses.Skip line)
+grid_refusal (detached_data line) = Statuses.GridForm (GridCauses.Detached line)
+grid_refusal (missing_field field) = Statuses.GridForm (GridCauses.Missing field)
+grid_refusal (sizes_too_large count) = Statuses.GridLarge count
+grid_refusal (data_too_short count) = Statuses.GridForm (GridCauses.DataShort count)
+grid_refusal data_trailing = Statuses.GridForm GridCauses.Trailing
+
+-- the bytes of a grid file are refused for a table of dimension d: they begin with no well-formed header, or its dimension is another one, or the bytes behind it spell no samples
+pub data IsRefusedGrid (d : ℕ) (bytes : List ℕ) : Status → Type 0 where
+  no_header : (fault : GridFault) → HasHeaderFault bytes fault → IsRefusedGrid d bytes (grid_refusal fault)
+  unfit : (h : Header) (data_bytes : List ℕ) → HasHeader bytes h data_bytes → d ≢ length h.sizes → IsRefusedGrid d bytes (Statuses.Unfit d (length h.sizes))
+  no_samples : (h : Header) (data_bytes : List ℕ) (fault : GridFault) → HasHeader bytes h data_bytes → d ≡ length h.sizes
+      → HasSampleFault h data_bytes fault → IsRefusedGrid d bytes (grid_refusal fault)
+
+-- ---- the files of a command
+
+-- the files hold a table, and a grid of its dimension
+pub record HoldBoth (files : Option Files) (table_name grid_name : List ℕ) (t : Table) (g : Grid) : Type 0 where
+  pub table : FileHas files table_name (λ bytes. HoldTable bytes t)
+  pub grid : FileHas files grid_name (λ bytes. SpellsGrid bytes g)
+  pub fits : t.dimension ≡ length g.sizes
+
+-- a mesh is refused: its table file is, or that holds a table, and then the grid file is refused for it
+pub data IsRefusedMesh (files : Option Files) (table_name grid_name : List ℕ) (status : Status) : Type 0 where
+  by_table : FileHas files table_name (λ bytes. IsRefusedTable bytes status) → IsRefusedMesh files table_name grid_name status
+  by_grid : (t : Table) → FileHas files table_name (λ bytes. HoldTable bytes t) → FileHas files grid_name (λ bytes. IsRefusedGrid t.dimension bytes status)
+      → IsRefusedMesh files table_name grid_name status

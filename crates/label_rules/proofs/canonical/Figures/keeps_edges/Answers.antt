@@ -1,0 +1,12 @@
+use Rattle.std.proofs.Common.{arith}
+use Rattle.label_rules.proofs.FigureLaws.{edges_few}
+use Rattle.label_rules.proofs.SideLaws.{in_dimension}
+use Rattle.label_rules.proofs.canonical.Figures.keeps_edges.Goals as goal
+
+pub keeps_edges-requires : goal.keeps_edges-requires
+keeps_edges-requires g c =
+    let few = (in_dimension c.args.self.now g.row.D c.kind-kind.ensures.cell).greatest in
+    (omega (arith, few), edges_few c.args.self.now g.row.D c.args.tuples.now c.kind-kind.ensures.cell c.requires)
+
+pub returns : goal.returns
+returns g c = c.keeps_edges.ensures c.args.self.now c.args.label (c.bipolar.ensures c.args.tuples.now c.requires)

@@ -1,0 +1,5 @@
+pub mod Lists
+pub mod CellEdges
+pub mod Tuples
+pub mod Shapes
+pub mod Cubes

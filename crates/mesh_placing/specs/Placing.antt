@@ -1,0 +1,50 @@
+-- What is made of each bipolar edge and of each cell: a vertex, and the placed tuples of an entry.
+use Rattle.std.specs.Prelude.{◌≡◌, ℕ, ◌*◌, ◌<◌, true, List, length, map, slice_index, ℤ}
+use Rattle.std.specs.List.{range_with_len}
+use Rattle.iso_model.specs.declared.Kind.{Kind}
+use Rattle.iso_model.specs.Cells.{edge_count, label_count}
+use Rattle.iso_model.specs.Splits.{Edge, edge, is_odd_cell, cells_per_cube}
+use Rattle.iso_model.specs.Values.{Grid, HasValue, value_at, is_positive}
+use Rattle.iso_model.specs.Bipolar.{differ, is_bipolar_in, place_in}
+use Rattle.iso_model.specs.Crossing.{crossing}
+use Rattle.iso_model.specs.Tables.{Table, IsTable, entry_of}
+use Rattle.iso_model.specs.Acceptance.{rule_edges}
+use Rattle.iso_model.specs.Placed.{placed_tuple}
+use Rattle.edge_vertex.specs.Ends.{AreNear}
+
+-- a table fits a grid: it is one of cells of this kind in the dimension of the grid, and each entry has the bipolar edges of its label and no others
+pub record FitsGrid (kind : Kind) (g : Grid) (t : Table) : Type 0 where
+  pub table : IsTable t
+  pub same_kind : t.kind ≡ kind
+  pub same_dimension : t.dimension ≡ length g.sizes
+  pub keeps_edges : (label : ℕ) → label < label_count kind (length g.sizes) → rule_edges kind (length g.sizes) label (entry_of t label) ≡ true
+
+-- an edge of a grid can be crossed at an isovalue: both ends have values, they are near, and one is positive and the other is not
+pub record IsCrossed (g : Grid) (iso : ℤ) (e : Edge) : Type 0 where
+  pub low : HasValue g.sizes e.low
+  pub high : HasValue g.sizes e.high
+  pub near : AreNear e.low e.high
+  pub bipolar : differ (is_positive iso (value_at g.sizes g.samples e.low)) (is_positive iso (value_at g.sizes g.samples e.high)) ≡ true
+
+-- where an edge of a grid is crossed, by the values of its ends
+abbrev pub vertex_on : Grid → ℤ → Edge → List ℤ
+vertex_on g iso e = crossing e (value_at g.sizes g.samples e.low) (value_at g.sizes g.samples e.high) iso
+
+-- the edges of a cell that are bipolar in the label stand in the list
+abbrev pub ListsEdges : Kind → ℕ → List ℕ → List Edge → ℕ → ℕ → Type 0
+ListsEdges kind d sizes edges cell label =
+    (e : ℕ) → e < edge_count kind d → is_bipolar_in kind d label e ≡ true → place_in edges (edge kind sizes cell e) < length edges
+
+-- the places in the list of those edges of a cell that are bipolar in the label, among those whose numbers are below n
+abbrev pub ArePlaces : Kind → ℕ → List ℕ → List Edge → ℕ → ℕ → ℕ → List ℕ → Type 0
+ArePlaces kind d sizes edges cell label n places =
+    (e : ℕ) → e < n → is_bipolar_in kind d label e ≡ true → slice_index places e ≡ place_in edges (edge kind sizes cell e)
+
+-- the tuples of an entry in a cell, each placed
+abbrev pub placed_tuples : Kind → List ℕ → List Edge → ℕ → List (List ℕ) → List (List ℕ)
+placed_tuples kind sizes edges cell tuples =
+    map (placed_tuple (is_odd_cell kind sizes cell) (λ e. place_in edges (edge kind sizes cell e))) tuples
+
+-- the cells of a cube, by their numbers
+abbrev pub cube_cells : Kind → ℕ → ℕ → List ℕ
+cube_cells kind d cube = range_with_len (cube * cells_per_cube kind d) (cells_per_cube kind d)
