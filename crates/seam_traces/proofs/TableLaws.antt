@@ -280,23 +280,24 @@ made_seam f g same = record { facet = f; other = g; same_parity = same }
 pub seam_is : (s : Seam) (f g : ℕ) (same : Bool) → f ≡ s.facet → g ≡ s.other → same ≡ s.same_parity → made_seam f g same ≡ s
 seam_is s f g same a b c = ap (λ k. made_seam k g same) a ∙ ap (λ k. made_seam s.facet k same) b ∙ ap (λ k. made_seam s.facet s.other k) c
 
-facet_read : (kind : Kind) (d f : ℕ) (facets : List Facet) (x : Facet) → AreFacetsOf kind d facets → f < facet_count kind d → x ≡ get_or facets f x → IsFacetOf kind d f x
+pub facet_read : (kind : Kind) (d f : ℕ) (facets : List Facet) (x : Facet) → AreFacetsOf kind d facets → f < facet_count kind d → x ≡ get_or facets f x → IsFacetOf kind d f x
 facet_read kind d f facets x are less read = subst (IsFacetOf kind d f) (sym read) (are.each f x less)
 
 pub sound_read : (kind : Kind) (d f : ℕ) (facets : List Facet) (x : Facet) → IsDimension d → HasDimension kind d → AreFacetsOf kind d facets → f < facet_count kind d → x ≡ get_or facets f x → IsSound x
 sound_read kind d f facets x is has are less read = facet_sound kind d f x is has (facet_read kind d f facets x are less read)
 
-pub seam_read : (kind : Kind) (d n : ℕ) (facets : List Facet) (f g : ℕ) (same : Bool) (x y : Facet) → IsDimension d → HasDimension kind d → AreFacetsOf kind d facets
+pub seam_read : (kind : Kind) (d n : ℕ) (facets : List Facet) (f g : ℕ) (same : Bool) (x y : Facet) → IsDimension d → HasDimension kind d
     → All (MeetsCorners kind d) (seams kind d) → All (KeepsEdges kind d) (seams kind d) → n < length (seams kind d) → made_seam f g same ≡ seam_at kind d n
-    → f < facet_count kind d → g < facet_count kind d → x ≡ get_or facets f x → y ≡ get_or facets g y → IsSeam kind d facets (made_seam f g same) x y
-seam_read kind d n facets f g same x y is has are corners edges less e in_f in_g read_x read_y = record {
+    → f < facet_count kind d → g < facet_count kind d → IsFacetOf kind d f x → IsFacetOf kind d g y → x ≡ get_or facets f x → y ≡ get_or facets g y
+    → IsSeam kind d facets (made_seam f g same) x y
+seam_read kind d n facets f g same x y is has corners edges less e in_f in_g facet other read_x read_y = record {
   corners = subst (MeetsCorners kind d) (sym e) (corners n (seam 0 0 false) less);
   edges = subst (KeepsEdges kind d) (sym e) (edges n (seam 0 0 false) less);
   places = subst (λ (s : Seam). face_places kind d s.facet ≡ face_places kind d s.other) (sym e) (seam_places kind d is has n (seam 0 0 false) less);
   in_facets = in_f;
   other_in_facets = in_g;
-  facet = facet_read kind d f facets x are in_f read_x;
-  other = facet_read kind d g facets y are in_g read_y;
+  facet = facet;
+  other = other;
   read = read_x;
   other_read = read_y;
 }

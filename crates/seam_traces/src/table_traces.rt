@@ -1,13 +1,13 @@
 //! The traces of all labels of a table.
 
-ghost use Rattle.std.specs.Prelude.{◌≡◌, ℕ, ◌<◌, ◌≤◌, length, IfOk};
+ghost use Rattle.std.specs.Prelude.{◌≡◌, ◌<◌, slice_index_or, IfOk};
 ghost use Rattle.iso_model.specs.Seams.{seams};
 ghost use Rattle.iso_model.specs.Tables.{Table as TableValue, entry_of};
 ghost use Rattle.iso_model.specs.Acceptance.{rule_seams};
 ghost use Rattle.cell_lattice.specs.SeamTables.{seam_at};
 ghost use Rattle.face_tallies.specs.Tallies.{AreTallies};
 ghost use Rattle.seam_traces.specs.Traces.{keeps_seam};
-ghost use Rattle.seam_traces.specs.Kept.{TellTable};
+ghost use Rattle.seam_traces.specs.Kept.{TellTable, IsSound, IsFacetOf};
 
 use crate::facets::{Facet, add_label, facets_of};
 use cell_lattice::Cell;
@@ -75,9 +75,19 @@ impl<C: Cell<D>, const D: usize> Traces<C, D> {
         ensures { (t : TableValue) → TellTable C.KIND D t self.now → AreTallies D (entry_of t label) tallies.now → result ≡ keeps_seam t label (seam_at C.KIND D number) }
     {
         let seam = C::seam(number);
-        let facet = &self.facets[seam.facet as usize];
-        let other = &self.facets[seam.other as usize];
+        let facet = self.facet(seam.facet);
+        let other = self.facet(seam.other);
         other.corresponds(facet, seam.same, label, tallies)
             && facet.corresponds(other, seam.same, label, tallies)
+    }
+
+    /// A facet of the cell.
+    fn facet(&self, number: u8) -> &Facet
+        requires { number < C.FACETS }
+        ensures read { result.now ≡ slice_index_or self.now number result.now }
+        ensures sound { IsSound result.now }
+        ensures facet { IsFacetOf C.KIND D number result.now }
+    {
+        &self.facets[number as usize]
     }
 }
