@@ -9,6 +9,7 @@ use Rattle.std.specs.Cmp.Lexicographic.{slice_cmp}
 use Rattle.std.proofs.lemmas.Bool.{false≢true}
 use Rattle.std.proofs.lemmas.Bool.Decides.{nat_tests}
 use Rattle.std.proofs.lemmas.List.{reverse-append, length-reverse, get_or-reverse, get_or-map, length-map}
+use Rattle.std.proofs.lemmas.Map.Keys.{apart_from_distinct}
 use Rattle.std.proofs.lemmas.Slice.Eq.{bytes_eq-Decides}
 use Rattle.grid_split.specs.declared.split.Edge.{Edge}
 use Rattle.iso_model.specs.Orders.{same_list}
@@ -21,12 +22,12 @@ use Rattle.edge_vertex.specs.EdgeValue.{edge_of, edges_of, order_of}
 
 -- ---- sums of points, last coordinate first
 
-length-plus : (p q : List ℕ) → length p ≡ length q → length (plus p q) ≡ length p
+pub length-plus : (p q : List ℕ) → length p ≡ length q → length (plus p q) ≡ length p
 length-plus [] q l = refl
 length-plus (x ∷ p) [] l = absurd (omega (arith, l))
 length-plus (x ∷ p) (y ∷ q) l = ap suc (length-plus p q (omega (arith, l)))
 
-plus_at : (p q : List ℕ) (i : ℕ) → i < length p → length p ≡ length q → slice_index (plus p q) i ≡ slice_index p i + slice_index q i
+pub plus_at : (p q : List ℕ) (i : ℕ) → i < length p → length p ≡ length q → slice_index (plus p q) i ≡ slice_index p i + slice_index q i
 plus_at [] q i h l = absurd (omega (arith, h))
 plus_at (x ∷ p) [] i h l = absurd (omega (arith, l))
 plus_at (x ∷ p) (y ∷ q) zero h l = refl
@@ -84,20 +85,13 @@ keys_ordered (x ∷ p) (y ∷ q) l h =
 
 -- ---- neighbours in a sorted list
 
-next_place : (k : ℕ) → suc (k + 1) ≡ suc k + 1
-next_place k = omega arith
-
-pub neighbours_apart : {D : ℕ} (E : Edge D → Edge D → Bool) (ks : List (Edge D)) → ((x y : Edge D) → x ≡ y → E x y ≡ true) → IsDistinct E ks → (k : ℕ) (d : Edge D) → k + 1 < length ks → slice_index_or ks k d ≡ slice_index_or ks (k + 1) d → ⊥
-unfolding IsDistinct
-neighbours_apart E [] itself apart k d h e = omega (arith, h)
-neighbours_apart E (x ∷ []) itself apart k d h e = omega (arith, h)
-neighbours_apart E (x ∷ y ∷ ks) itself apart zero d h e = false≢true (sym apart.0.0 ∙ itself x y e)
-neighbours_apart E (x ∷ y ∷ ks) itself apart (suc k) d h e =
-    neighbours_apart E (y ∷ ks) itself apart.1 k d (omega (arith, h)) (e ∙ ap (λ (n : ℕ). slice_index_or (x ∷ y ∷ ks) n d) (sym (next_place k)))
+pub all_apart : {D : ℕ} (E : Edge D → Edge D → Bool) (ks : List (Edge D)) → ((x y : Edge D) → x ≡ y → E x y ≡ true) → IsDistinct E ks → (i j : ℕ) (d : Edge D) → i < j → j < length ks → slice_index_or ks i d ≡ slice_index_or ks j d → ⊥
+all_apart E ks itself apart i j d less h e =
+    false≢true (sym (apart_from_distinct E ks i j d apart less h) ∙ itself (slice_index_or ks i d) (slice_index_or ks j d) e)
 
 pub record SortedEdges {D : ℕ} (keys : List (Edge D)) : Type 0 where
   pub sorted : IsSortedByKey order_of (slice_cmp nat_cmp) keys
-  pub apart : (k : ℕ) (d : Edge D) → k + 1 < length keys → slice_index_or keys k d ≡ slice_index_or keys (k + 1) d → ⊥
+  pub apart : (i j : ℕ) (d : Edge D) → i < j → j < length keys → slice_index_or keys i d ≡ slice_index_or keys j d → ⊥
 
 pub ascends : {D : ℕ} (n : ℕ) (keys : List (Edge D)) → SortedEdges keys → ((e : Splits.Edge) → Contains (edges_of keys) e → length (Splits.midpoint e) ≡ n)
     → ((d e : Splits.Edge) → Contains (edges_of keys) d → Contains (edges_of keys) e → Splits.midpoint d ≡ Splits.midpoint e → d ≡ e)
@@ -120,7 +114,7 @@ ascends {D} n (x ∷ keys) given wide own k d h =
           let one : edge_of a ≡ edge_of b = own (edge_of a) (edge_of b) in_a in_b equal in
           let low : a.low ≡ b.low = ap (λ (e : Splits.Edge). e.low) one in
           let high : a.high ≡ b.high = ap (λ (e : Splits.Edge). e.high) one in
-          absurd (given.apart k x inside (λ i. record { low = low i; high = high i }))
+          absurd (given.apart k (k + 1) x (omega arith) inside (λ i. record { low = low i; high = high i }))
       | inr (inr more) ↦ absurd (false≢true (sym sorted ∙ keys_ordered (Splits.midpoint (edge_of b)) (Splits.midpoint (edge_of a)) (sym same) more))
     ] in
     ap (λ (e : Splits.Edge). comes_first (Splits.midpoint e) (Splits.midpoint (slice_index_or (edges_of (x ∷ keys)) (k + 1) d))) at_a

@@ -9,3 +9,4 @@ pub mod Added
 pub mod Ascending
 pub mod Listed
 pub mod CubeCells
+pub mod EdgeCount

@@ -36,9 +36,6 @@ pub fn bipolar<C: Split<D>, const D: usize>(
     know_axes(complex);
     let mut edges = all_bipolar(alloc, complex, grid, iso)?;
     sort_edges(&mut edges)?;
-    if edges.len() >= 4294967296 {
-        return Err(Memory);
-    }
     Ok(EdgeList { edges })
 }
 
@@ -191,7 +188,7 @@ fn add<const D: usize>(edges: &mut EdgeSet<D>, edge: Edge<D>) -> Result<(), Memo
 fn sort_edges<const D: usize>(edges: &mut EdgeSet<D>) -> Result<(), Memory>
     requires { IsDimension D }
     ensures sorted { OnOk result (IsSortedByKey order_of (slice_cmp nat_cmp) edges.new.keys) }
-    ensures apart { OnOk result ((k : ℕ) (d : Edge D) → k + 1 < length edges.new.keys → slice_index_or edges.new.keys k d ≡ slice_index_or edges.new.keys (k + 1) d → ⊥) }
+    ensures apart { OnOk result ((i j : ℕ) (d : Edge D) → i < j → j < length edges.new.keys → slice_index_or edges.new.keys i d ≡ slice_index_or edges.new.keys j d → ⊥) }
     ensures reordered { OnOk result (IsPermutation edges.old.keys edges.new.keys) }
 {
     let sorted = edges.sort_unstable_by_key(

@@ -6,7 +6,7 @@ ghost use Rattle.edge_vertex.specs.NearbyHash as nearby;
 
 use std::hash::Hasher;
 
-/// How much a coordinate of the low end weighs, axis by axis, and then of the high end. The two of one axis add up to
+/// How much a coordinate of the high end weighs, axis by axis, and then of the low end. The two of one axis add up to
 /// the step from one point to the next: 1 along axis 0, and far apart along the others.
 const WEIGHTS: [u64; 8] = [
     0xf120_908d_3945_733a,

@@ -2,6 +2,10 @@
 //!
 //! Cubes are numbered with axis 0 fastest. A row is the cubes that differ in axis 0 alone; along it the first sample of
 //! a cube goes up by one, and the far face of a cube is the near face of the next.
+//!
+//! For proofs above this crate: `specs/Mixed` has `is_mixed`. Of the files in `proofs`, `OneSign` says that a cell of a
+//! cube that is not mixed has label 0 or the greatest one, whatever the split (`has_plain_label`); `OffsetCases` that
+//! corners of cells are corners or centres of cubes; `Powers` how a number is made of its bits.
 #![tactic(auto)]
 
 mod cubes;
