@@ -1,0 +1,9 @@
+pub mod Sets
+pub mod Choices
+pub mod Lookups
+pub mod FacetLists
+pub mod KeptTraces
+pub mod SeamRule
+pub mod Steps
+pub mod KeptSteps
+pub mod TableLaws

@@ -1,0 +1,168 @@
+//! A facet of a cell, and what is kept of the labels that were taken.
+
+ghost use Rattle.std.specs.Prelude.{◌≡◌, ◌↔◌, ℕ, ◌^◌, ◌<◌, ◌≤◌, length, slice_index_or, All, IfOk, OnOk, IsTrue};
+ghost use Rattle.seam_traces.specs.Kept.{seen_at, tallies_at, IsSound, pattern_on, tallies_on, TakesLabel, Matches, IsFacetOf, AreFacetsOf, EachTakesLabel};
+
+use crate::places::{members_of, places_of, push};
+use crate::walks::{are_across, tallies_in};
+use cell_lattice::Cell;
+use face_tallies::FaceTally;
+use iso_base::Memory;
+use std::alloc::Global;
+
+/// How the labels with a pattern on a facet compare.
+#[derive(Clone, Copy, Debug, PartialEq, Eq)]
+pub enum Seen {
+    /// There was no label with the pattern.
+    Never,
+    /// All of them have the same trace.
+    Alike,
+    /// Two of them have different traces.
+    Unlike,
+}
+
+/// A facet: its corners and its edges in ascending order, the set of its edges, and for each pattern of signs on its
+/// corners how the labels with it compare, and the trace of the first of them.
+#[derive(Drop)]
+pub struct Facet {
+    corners: Vec<u8>,
+    edges: Vec<u8>,
+    edge_set: u32,
+    seen: Vec<Seen>,
+    traces: Vec<Vec<FaceTally>>,
+}
+
+impl Facet {
+    /// Takes the next label, by the tallies of its tuples.
+    pub(crate) fn add(
+        &mut self,
+        alloc: Global,
+        label: u32,
+        tallies: &[FaceTally],
+    ) -> Result<(), Memory>
+        requires { IsSound self.old }
+        ensures { OnOk result (TakesLabel label tallies.now self.old self.new) }
+    {
+        let pattern = places_of(&self.corners, label) as usize;
+        match self.seen[pattern] {
+            Seen::Never => {
+                self.traces[pattern] = tallies_in(alloc, &self.edges, self.edge_set, tallies)?;
+                self.seen[pattern] = Seen::Alike;
+            }
+            Seen::Alike => {
+                if !are_across(
+                    &self.traces[pattern],
+                    &self.edges,
+                    self.edge_set,
+                    tallies,
+                    false,
+                ) {
+                    self.seen[pattern] = Seen::Unlike;
+                }
+            }
+            Seen::Unlike => {}
+        }
+        Ok(())
+    }
+
+    /// Whether all labels with the pattern of a label on another facet have the trace on this facet that corresponds to
+    /// its own trace there.
+    pub(crate) fn corresponds(
+        &self,
+        other: &Facet,
+        same: bool,
+        label: u32,
+        tallies: &[FaceTally],
+    ) -> bool
+        requires one { IsSound self.now }
+        requires two { IsSound other.now }
+        requires meet { length self.now.corners.items ≡ length other.now.corners.items }
+        ensures { IsTrue result ↔ Matches same (tallies_on other.now tallies.now) (seen_at self.now (pattern_on other.now label)) (tallies_at self.now (pattern_on other.now label)) }
+    {
+        let pattern = places_of(&other.corners, label) as usize;
+        match self.seen[pattern] {
+            Seen::Never => true,
+            Seen::Alike => are_across(
+                &self.traces[pattern],
+                &other.edges,
+                other.edge_set,
+                tallies,
+                same,
+            ),
+            Seen::Unlike => false,
+        }
+    }
+}
+
+/// What is seen of so many patterns before the first label.
+fn unseen(alloc: Global, count: usize) -> Result<Vec<Seen>, Memory>
+    ensures len { IfOk result (λ seen. length seen.items ≡ count) }
+    ensures never { IfOk result (λ seen. (p : ℕ) → slice_index_or seen.items p Seen.Never ≡ Seen.Never) }
+{
+    let mut seen = Vec::new(alloc);
+    for _ in 0..count {
+        push(&mut seen, Seen::Never)?;
+    }
+    Ok(seen)
+}
+
+/// So many empty traces.
+fn empty_traces(alloc: Global, count: usize) -> Result<Vec<Vec<FaceTally>>, Memory>
+    ensures { IfOk result (λ traces. length traces.items ≡ count) }
+{
+    let mut traces = Vec::new(alloc);
+    for _ in 0..count {
+        push(&mut traces, Vec::new(alloc))?;
+    }
+    Ok(traces)
+}
+
+/// A facet of the cell, of which no label was taken.
+pub(crate) fn facet_of<C: Cell<D>, const D: usize>(
+    alloc: Global,
+    facet: u8,
+) -> Result<Facet, Memory>
+    requires { facet < C.FACETS }
+    ensures is_facet { IfOk result (λ made. IsFacetOf C.KIND D facet made) }
+    ensures never { IfOk result (λ made. (p : ℕ) → seen_at made p ≡ Seen.Never) }
+{
+    let corners = members_of(alloc, C::facet_mask(facet), C::CORNERS)?;
+    let edge_set = C::facet_edges(facet);
+    let edges = members_of(alloc, edge_set, C::EDGES)?;
+    let patterns = 1 << corners.len();
+    Ok(Facet {
+        corners,
+        edges,
+        edge_set,
+        seen: unseen(alloc, patterns)?,
+        traces: empty_traces(alloc, patterns)?,
+    })
+}
+
+/// The facets of the cell, of which no label was taken.
+pub(crate) fn facets_of<C: Cell<D>, const D: usize>(alloc: Global) -> Result<Vec<Facet>, Memory>
+    ensures are_facets { IfOk result (λ facets. AreFacetsOf C.KIND D facets.items) }
+    ensures never { IfOk result (λ facets. All (λ (x : Facet). (p : ℕ) → seen_at x p ≡ Seen.Never) facets.items) }
+{
+    let mut facets = Vec::new(alloc);
+    for facet in 0..C::FACETS {
+        push(&mut facets, facet_of::<C, D>(alloc, facet as u8)?)?;
+    }
+    Ok(facets)
+}
+
+/// Each facet takes the next label, by the tallies of its tuples.
+pub(crate) fn add_label(
+    alloc: Global,
+    facets: &mut [Facet],
+    label: u32,
+    tallies: &[FaceTally],
+) -> Result<(), Memory>
+    requires { All IsSound facets.old }
+    ensures { OnOk result (EachTakesLabel label tallies.now facets.old facets.new) }
+{
+    for facet in facets.iter_mut() {
+        facet.add(alloc, label, tallies)?;
+    }
+    Ok(())
+}

@@ -1,0 +1,19 @@
+//! The rule of seams of the acceptance of a table, without looking at pairs of labels.
+//!
+//! A seam says that a facet of one cell and a facet of another may be the same points. Two labels that agree on the
+//! corners that meet there must have the same sets of D - 1 edges in their facets, each as often, with sums of signs
+//! that match. So what counts of a label at a facet is its pattern, the signs of the facet's corners, and its trace, the
+//! counts and sums of the sets of edges in the facet. Both are written by places among the corners and the edges of the
+//! facet, in ascending order; a seam keeps these orders, so the pattern and the trace on its other side are known.
+//!
+//! For each facet and pattern the trace of the first label with it is kept, and whether all labels with it have this
+//! trace. A label keeps the rule at an end of a seam exactly where all traces of its pattern at the other end are alike
+//! and the kept one corresponds to its own.
+#![tactic(auto)]
+
+mod facets;
+mod places;
+mod table_traces;
+mod walks;
+
+pub use table_traces::Traces;

@@ -1,0 +1,83 @@
+//! The traces of all labels of a table.
+
+ghost use Rattle.std.specs.Prelude.{◌≡◌, ℕ, ◌<◌, ◌≤◌, length, IfOk};
+ghost use Rattle.iso_model.specs.Seams.{seams};
+ghost use Rattle.iso_model.specs.Tables.{Table as TableValue, entry_of};
+ghost use Rattle.iso_model.specs.Acceptance.{rule_seams};
+ghost use Rattle.cell_lattice.specs.SeamTables.{seam_at};
+ghost use Rattle.face_tallies.specs.Tallies.{AreTallies};
+ghost use Rattle.seam_traces.specs.Traces.{keeps_seam};
+ghost use Rattle.seam_traces.specs.Kept.{TellTable};
+
+use crate::facets::{Facet, add_label, facets_of};
+use cell_lattice::Cell;
+use face_tallies::{FaceTally, TallyRoom, tally};
+use iso_base::Memory;
+use std::alloc::Global;
+use std::marker::{Model, PhantomData};
+use table_file::Table;
+
+/// For each facet of the cell and each pattern of signs on its corners the trace of the first label of a table with
+/// this pattern, and whether all labels with it have this trace.
+#[derive(Drop)]
+pub struct Traces<C: Cell<D>, const D: usize> {
+    facets: Vec<Facet>,
+    cell: PhantomData<C>,
+}
+
+impl<C: Cell<D>, const D: usize> Model for Traces<C, D> {
+    ghost use Rattle.std.specs.Prelude.{List};
+    ghost use Rattle.seam_traces.specs.declared.facets.Facet.{Facet as FacetValue};
+    ghost use Rattle.seam_traces.specs.Kept.{AreFacetsOf};
+
+    ghost Value = { List FacetValue };
+
+    ghost view = { λ t. t.facets.items };
+
+    ghost invariant = { λ t. AreFacetsOf C.KIND D t.facets.items };
+}
+
+impl<C: Cell<D>, const D: usize> Traces<C, D> {
+    /// The traces of all labels of a table of this kind.
+    pub fn gather(alloc: Global, table: &Table<D>) -> Result<Traces<C, D>, Memory>
+        requires { table.now.kind ≡ C.KIND }
+        ensures { IfOk result (λ traces. TellTable C.KIND D table.now traces) }
+    {
+        let mut facets = facets_of::<C, D>(alloc)?;
+        let mut room = TallyRoom::new(alloc);
+        let mut tallies = Vec::new(alloc);
+        for label in 0..table.labels() {
+            tally(table.tuples(label), &mut room, &mut tallies)?;
+            add_label(alloc, &mut facets, label, &tallies)?;
+        }
+        Ok(Traces {
+            facets,
+            cell: PhantomData,
+        })
+    }
+
+    /// Whether a label keeps the rule of seams in the table of which these are the traces. `tallies` are those of the
+    /// label's tuples.
+    pub fn keeps_seams(&self, label: u32, tallies: &[FaceTally]) -> bool
+        ensures { (t : TableValue) → TellTable C.KIND D t self.now → AreTallies D (entry_of t label) tallies.now → result ≡ rule_seams (seams C.KIND D) t label }
+    {
+        for number in 0..C::SEAMS {
+            if !self.keeps_seam(number as u8, label, tallies) {
+                return false;
+            }
+        }
+        true
+    }
+
+    /// Whether a label keeps the rule at one seam.
+    fn keeps_seam(&self, number: u8, label: u32, tallies: &[FaceTally]) -> bool
+        requires { number < C.SEAMS }
+        ensures { (t : TableValue) → TellTable C.KIND D t self.now → AreTallies D (entry_of t label) tallies.now → result ≡ keeps_seam t label (seam_at C.KIND D number) }
+    {
+        let seam = C::seam(number);
+        let facet = &self.facets[seam.facet as usize];
+        let other = &self.facets[seam.other as usize];
+        other.corresponds(facet, seam.same, label, tallies)
+            && facet.corresponds(other, seam.same, label, tallies)
+    }
+}

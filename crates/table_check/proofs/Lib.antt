@@ -1,0 +1,2 @@
+mod EmptyEntries
+mod RuleOrder

@@ -1,0 +1,159 @@
+//! Tables of squares and simplices, and spoiled ones.
+
+use crate::{CertifyFault, Verdict, certify, check};
+use cell_lattice::{CubeCell, SimplexCell};
+use std::alloc::Global;
+use std::test::Fail;
+use table_file::{AnyTable, Kind, decode};
+
+/// The table of the square.
+const SQUARE: [u8; 112] = [
+    0x48, 0x55, 0x4c, 0x4c, 0x54, 0x41, 0x42, 0x31, 0, 2, 4, 4, 0, 0, 0, 16, // head
+    0, 0, 0, 0, // label 0
+    0, 0, 0, 1, 0, 1, // label 1
+    0, 0, 0, 1, 2, 0, // label 2
+    0, 0, 0, 1, 2, 1, // label 3
+    0, 0, 0, 1, 1, 3, // label 4
+    0, 0, 0, 1, 0, 3, // label 5
+    0, 0, 0, 2, 1, 0, 2, 3, // label 6
+    0, 0, 0, 1, 2, 3, // label 7
+    0, 0, 0, 1, 3, 2, // label 8
+    0, 0, 0, 2, 0, 2, 3, 1, // label 9
+    0, 0, 0, 1, 3, 0, // label 10
+    0, 0, 0, 1, 3, 1, // label 11
+    0, 0, 0, 1, 1, 2, // label 12
+    0, 0, 0, 1, 0, 2, // label 13
+    0, 0, 0, 1, 1, 0, // label 14
+    0, 0, 0, 0, // label 15
+];
+
+/// The table of the triangle.
+const TRIANGLE: [u8; 60] = [
+    0x48, 0x55, 0x4c, 0x4c, 0x54, 0x41, 0x42, 0x31, 1, 2, 3, 3, 0, 0, 0, 8, // head
+    0, 0, 0, 0, // label 0
+    0, 0, 0, 1, 0, 1, // label 1
+    0, 0, 0, 1, 2, 0, // label 2
+    0, 0, 0, 1, 2, 1, // label 3
+    0, 0, 0, 1, 1, 2, // label 4
+    0, 0, 0, 1, 0, 2, // label 5
+    0, 0, 0, 1, 1, 0, // label 6
+    0, 0, 0, 0, // label 7
+];
+
+/// The table of the tetrahedron.
+const TETRAHEDRON: [u8; 140] = [
+    0x48, 0x55, 0x4c, 0x4c, 0x54, 0x41, 0x42, 0x31, 1, 3, 4, 6, 0, 0, 0, 16, // head
+    0, 0, 0, 0, // label 0
+    0, 0, 0, 1, 0, 2, 1, // label 1
+    0, 0, 0, 1, 0, 3, 4, // label 2
+    0, 0, 0, 2, 1, 4, 2, 1, 3, 4, // label 3
+    0, 0, 0, 1, 1, 5, 3, // label 4
+    0, 0, 0, 2, 0, 2, 5, 0, 5, 3, // label 5
+    0, 0, 0, 2, 0, 1, 5, 0, 5, 4, // label 6
+    0, 0, 0, 1, 2, 5, 4, // label 7
+    0, 0, 0, 1, 2, 4, 5, // label 8
+    0, 0, 0, 2, 0, 5, 1, 0, 4, 5, // label 9
+    0, 0, 0, 2, 0, 5, 2, 0, 3, 5, // label 10
+    0, 0, 0, 1, 1, 3, 5, // label 11
+    0, 0, 0, 2, 1, 2, 4, 1, 4, 3, // label 12
+    0, 0, 0, 1, 0, 4, 3, // label 13
+    0, 0, 0, 1, 0, 1, 2, // label 14
+    0, 0, 0, 0, // label 15
+];
+
+/// The verdict on the table of these bytes, with those from `from` up to `to` replaced.
+fn verdict(
+    alloc: Global,
+    bytes: &[u8],
+    from: usize,
+    to: usize,
+    by: &[u8],
+) -> Result<Verdict, Fail> {
+    if from > to || to > bytes.len() {
+        return Err("no such bytes".into());
+    }
+    let mut spoiled = Vec::from_slice(alloc, &bytes[..from])?;
+    spoiled.extend_from_slice(by)?;
+    spoiled.extend_from_slice(&bytes[to..])?;
+    if spoiled.len() > 1 << 30 {
+        return Err("too many bytes".into());
+    }
+    match decode(alloc, &spoiled)? {
+        AnyTable::T2(table) => match table.kind() {
+            Kind::Cube => Ok(check::<CubeCell<2>, 2>(alloc, &table)?),
+            Kind::Simplex => Ok(check::<SimplexCell<2>, 2>(alloc, &table)?),
+            Kind::Pyramid => Err("a pyramid in two dimensions".into()),
+        },
+        AnyTable::T3(table) => match table.kind() {
+            Kind::Simplex => Ok(check::<SimplexCell<3>, 3>(alloc, &table)?),
+            _ => Err("no simplices".into()),
+        },
+        AnyTable::T4(_) => Err("four dimensions".into()),
+    }
+}
+
+fn refused(label: u32, rule: u8) -> Verdict {
+    Verdict::Refused { label, rule }
+}
+
+#[test]
+fn tables_of_the_square(rt: HostRuntime) -> Result<(), Fail> {
+    let alloc = rt.alloc();
+    assert_eq!(rt; verdict(alloc, &SQUARE, 0, 0, &[])?, Verdict::Accepted);
+    // label 6 joined the other way
+    let joined = verdict(alloc, &SQUARE, 54, 58, &[2, 0, 1, 3])?;
+    assert_eq!(rt; joined, Verdict::Accepted);
+    // the edges of label 1 exchanged, and its entry empty
+    assert_eq!(rt; verdict(alloc, &SQUARE, 24, 26, &[1, 0])?, refused(1, 4));
+    assert_eq!(rt; verdict(alloc, &SQUARE, 20, 26, &[0; 4])?, refused(1, 1));
+    // a tuple of label 8 over edges that are not bipolar counts where label 0 meets it, if its edges differ
+    let other = verdict(alloc, &SQUARE, 64, 70, &[0, 0, 0, 2, 3, 2, 0, 1])?;
+    assert_eq!(rt; other, refused(0, 6));
+    let twice = verdict(alloc, &SQUARE, 64, 70, &[0, 0, 0, 2, 3, 2, 0, 0])?;
+    assert_eq!(rt; twice, refused(8, 1));
+    Ok(())
+}
+
+#[test]
+fn tables_of_simplices(rt: HostRuntime) -> Result<(), Fail> {
+    let alloc = rt.alloc();
+    assert_eq!(rt; verdict(alloc, &TRIANGLE, 0, 0, &[])?, Verdict::Accepted);
+    assert_eq!(rt; verdict(alloc, &TRIANGLE, 24, 26, &[1, 0])?, refused(1, 4));
+    let tetrahedron = verdict(alloc, &TETRAHEDRON, 0, 0, &[])?;
+    assert_eq!(rt; tetrahedron, Verdict::Accepted);
+    // label 3 with the other diagonal
+    let diagonal = verdict(alloc, &TETRAHEDRON, 38, 44, &[1, 3, 2, 2, 3, 4])?;
+    assert_eq!(rt; diagonal, Verdict::Accepted);
+    // a tuple of label 3 twice, which label 1 can meet
+    let twice = [0, 0, 0, 3, 1, 4, 2, 1, 3, 4, 1, 3, 4];
+    assert_eq!(rt;
+        verdict(alloc, &TETRAHEDRON, 34, 44, &twice)?,
+        refused(1, 6)
+    );
+    Ok(())
+}
+
+#[test]
+fn tables_are_certified_or_handed_back(rt: HostRuntime) -> Result<(), Fail> {
+    let alloc = rt.alloc();
+    for second in [0, 1] {
+        let mut bytes = SQUARE;
+        bytes[24] = second;
+        bytes[25] = 1 - second;
+        let AnyTable::T2(table) = decode(alloc, &bytes)? else {
+            return Err("no table of two dimensions".into());
+        };
+        if table.kind() != Kind::Cube {
+            return Err("no table of the square".into());
+        }
+        match certify::<CubeCell<2>, 2>(alloc, table) {
+            Ok(checked) => assert!(rt; second == 0 && checked.table().labels() == 16),
+            Err(CertifyFault::Refused { table, label, rule }) => {
+                assert_eq!(rt; (second, label, rule), (1, 1, 4));
+                assert_eq!(rt; table.labels(), 16);
+            }
+            Err(CertifyFault::Memory { table: _table }) => return Err("no memory".into()),
+        }
+    }
+    Ok(())
+}
