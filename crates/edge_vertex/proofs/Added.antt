@@ -1,6 +1,6 @@
 -- What is added to a list of edges.
-use Rattle.std.proofs.Common.{◌≡◌, ℕ, ◌+◌, ◌-◌, ◌^◌, ◌<◌, Bool, true, false, List, [], ◌∷◌, ◌++◌, length, refl, sym, ◌∙◌, subst, arith, inl, inr}
-use Rattle.std.specs.Prelude.{Result, Ok, Err, OnOk, ◌⊎◌, ◌↔◌, ◌||◌, Contains, if◌then◌else◌}
+use Rattle.std.proofs.Common.{◌≡◌, ℕ, ◌+◌, ◌-◌, ◌*◌, ◌^◌, ◌<◌, Bool, true, false, List, [], ◌∷◌, ◌++◌, length, refl, sym, ◌∙◌, subst, arith, inl, inr}
+use Rattle.std.specs.Prelude.{Result, Ok, Err, OnOk, ◌⊎◌, ◌↔◌, ◌||◌, slice_index, Contains, if◌then◌else◌}
 use Rattle.std.specs.List.{list_any}
 use Rattle.std.proofs.lemmas.Bool.{false≢true, cases_lt}
 use Rattle.std.proofs.lemmas.Nat.Bits.{bit_at-zero, bit_at_ones}
@@ -11,7 +11,7 @@ use Rattle.iso_model.specs.Splits as Splits
 use Rattle.iso_model.specs.Bipolar.{differ, is_bipolar_in}
 use Rattle.iso_model.specs.Values.{Volume, label_of}
 use Rattle.iso_model.proofs.FaceLaws.{Contains-head, Contains-tail, Contains-split}
-use Rattle.edge_vertex.specs.EdgeValue.{edge_of, edges_of, Adds, IsBipolarAt, IsBipolarOf, IsBipolarEdge}
+use Rattle.edge_vertex.specs.EdgeValue.{edge_of, edges_of, Adds, IsBipolarAt, IsBipolarOf, IsBipolarFrom}
 
 none : {X : Type 0} (x : X) → Contains [] x → ⊥
 none x c = let h : c.0 < 0 = c.1 in omega arith
@@ -114,12 +114,26 @@ at_bipolar kind sizes cell label n x old new so is a =
 pub not_bipolar : (kind : Kind) (sizes : List ℕ) (cell label n : ℕ) (old : List Splits.Edge) → is_bipolar_in kind (length sizes) label n ≡ false → Adds (IsBipolarAt kind sizes cell label n) old old
 not_bipolar kind sizes cell label n old not_so = adds_none (IsBipolarAt kind sizes cell label n) old (λ e r. false≢true (sym not_so ∙ r.0))
 
-pub no_cells : (v : Volume) (n : ℕ) → Adds (IsBipolarEdge v n 0) [] []
-no_cells v n = adds_none (IsBipolarEdge v n 0) [] (λ e r. none_below (λ cell. IsBipolarOf v.kind v.sizes cell (label_of v cell) n e) r)
+pub no_ranks : (v : Volume) (n first : ℕ) (old : List Splits.Edge) → Adds (IsBipolarFrom v n first 0) old old
+no_ranks v n first old = adds_none (IsBipolarFrom v n first 0) old (λ e r. none_below (λ rank. IsBipolarOf v.kind v.sizes (first + rank) (label_of v (first + rank)) n e) r)
 
-pub next_cell : (v : Volume) (n cell : ℕ) (mid new : List Splits.Edge) → Adds (IsBipolarEdge v n cell) [] mid → Adds (IsBipolarOf v.kind v.sizes cell (label_of v cell) n) mid new → Adds (IsBipolarEdge v n (cell + 1)) [] new
-next_cell v n cell mid new a b =
-    adds_more (IsBipolarEdge v n cell) (IsBipolarOf v.kind v.sizes cell (label_of v cell) n) (IsBipolarEdge v n (cell + 1)) [] mid new (λ e. one_below (λ c. IsBipolarOf v.kind v.sizes c (label_of v c) n e) cell) a b
+pub next_rank : (v : Volume) (n first rank cell label : ℕ) (old mid new : List Splits.Edge) → cell ≡ first + rank → label ≡ label_of v cell → Adds (IsBipolarFrom v n first rank) old mid → Adds (IsBipolarOf v.kind v.sizes cell label n) mid new → Adds (IsBipolarFrom v n first (rank + 1)) old new
+next_rank v n first rank cell label old mid new at is a b =
+    let labelled : Adds (IsBipolarOf v.kind v.sizes cell (label_of v cell) n) mid new = subst (λ (l : ℕ). Adds (IsBipolarOf v.kind v.sizes cell l n) mid new) is b in
+    let placed : Adds (IsBipolarOf v.kind v.sizes (first + rank) (label_of v (first + rank)) n) mid new = subst (λ (c : ℕ). Adds (IsBipolarOf v.kind v.sizes c (label_of v c) n) mid new) at labelled in
+    adds_more (IsBipolarFrom v n first rank) (IsBipolarOf v.kind v.sizes (first + rank) (label_of v (first + rank)) n) (IsBipolarFrom v n first (rank + 1)) old mid new
+    (λ e. one_below (λ r. IsBipolarOf v.kind v.sizes (first + r) (label_of v (first + r)) n e) rank) a placed
+
+-- an edge that is bipolar in a cell of one of the first k cubes of a list, of which each has this many cells
+abbrev pub InCubes : Volume → ℕ → ℕ → List ℕ → ℕ → Splits.Edge → Type 0
+InCubes v n per cubes k e = (i : ℕ) × (i < k) × IsBipolarFrom v n (slice_index cubes i * per) per e
+
+pub no_cubes : (v : Volume) (n per : ℕ) (cubes : List ℕ) → Adds (InCubes v n per cubes 0) [] []
+no_cubes v n per cubes = adds_none (InCubes v n per cubes 0) [] (λ e r. none_below (λ i. IsBipolarFrom v n (slice_index cubes i * per) per e) r)
+
+pub next_cube : (v : Volume) (n per : ℕ) (cubes : List ℕ) (k : ℕ) (mid new : List Splits.Edge) → Adds (InCubes v n per cubes k) [] mid → Adds (IsBipolarFrom v n (slice_index cubes k * per) per) mid new → Adds (InCubes v n per cubes (k + 1)) [] new
+next_cube v n per cubes k mid new a b =
+    adds_more (InCubes v n per cubes k) (IsBipolarFrom v n (slice_index cubes k * per) per) (InCubes v n per cubes (k + 1)) [] mid new (λ e. one_below (λ i. IsBipolarFrom v n (slice_index cubes i * per) per e) k) a b
 
 pub from_nothing : (P : Splits.Edge → Type 0) (new : List Splits.Edge) → Adds P [] new → (e : Splits.Edge) → Contains new e ↔ P e
 from_nothing P new a e = (
@@ -135,28 +149,36 @@ same_signs true false e = absurd (false≢true (sym e))
 same_signs false true e = absurd (false≢true e)
 same_signs false false e = refl
 
-pub all_negative : (kind : Kind) (sizes : List ℕ) (cell label n : ℕ) (old : List Splits.Edge) → label ≡ 0 → Adds (IsBipolarOf kind sizes cell label n) old old
-all_negative kind sizes cell label n old zero_label =
-    adds_none (IsBipolarOf kind sizes cell label n) old (λ e r.
+-- where all corners are negative, and where all are positive, no edge is bipolar
+pub none_negative : (kind : Kind) (sizes : List ℕ) (cell label n : ℕ) (e : Splits.Edge) → label ≡ 0 → IsBipolarOf kind sizes cell label n e → ⊥
+none_negative kind sizes cell label n e zero_label r =
     let ends = edge_ends kind (length sizes) r.0 in
-    false≢true (sym (same_signs (is_set label ends.0) (is_set label ends.1) (unset ends.0 ∙ sym (unset ends.1))) ∙ r.2.0))
+    false≢true (sym (same_signs (is_set label ends.0) (is_set label ends.1) (unset ends.0 ∙ sym (unset ends.1))) ∙ r.2.0)
   where
     unset : (k : ℕ) → is_set label k ≡ false
     unset k = rw (zero_label, bit_at-zero k) refl
 
-pub all_positive : (kind : Kind) (sizes : List ℕ) (cell label n corners : ℕ) (old : List Splits.Edge) → label + 1 ≡ 2 ^ corners
-    → ((k : ℕ) → k < n → ((edge_ends kind (length sizes) k).0 < corners) × ((edge_ends kind (length sizes) k).1 < corners)) → Adds (IsBipolarOf kind sizes cell label n) old old
-all_positive kind sizes cell label n corners old full inside =
-    adds_none (IsBipolarOf kind sizes cell label n) old (λ e r.
+pub none_positive : (kind : Kind) (sizes : List ℕ) (cell label n corners : ℕ) (e : Splits.Edge) → label + 1 ≡ 2 ^ corners
+    → ((k : ℕ) → k < n → ((edge_ends kind (length sizes) k).0 < corners) × ((edge_ends kind (length sizes) k).1 < corners)) → IsBipolarOf kind sizes cell label n e → ⊥
+none_positive kind sizes cell label n corners e full inside r =
     let ends = edge_ends kind (length sizes) r.0 in
     let here = inside r.0 r.1 in
-    false≢true (sym (same_signs (is_set label ends.0) (is_set label ends.1) (put ends.0 here.0 ∙ sym (put ends.1 here.1))) ∙ r.2.0))
+    false≢true (sym (same_signs (is_set label ends.0) (is_set label ends.1) (put ends.0 here.0 ∙ sym (put ends.1 here.1))) ∙ r.2.0)
   where
     is : label ≡ 2 ^ corners - 1
     is = omega (arith, full)
 
     put : (k : ℕ) → k < corners → is_set label k ≡ true
     put k h = rw (is, bit_at_ones corners k h) refl
+
+pub all_positive : (kind : Kind) (sizes : List ℕ) (cell label n corners : ℕ) (old : List Splits.Edge) → label + 1 ≡ 2 ^ corners
+    → ((k : ℕ) → k < n → ((edge_ends kind (length sizes) k).0 < corners) × ((edge_ends kind (length sizes) k).1 < corners)) → Adds (IsBipolarOf kind sizes cell label n) old old
+all_positive kind sizes cell label n corners old full inside =
+    adds_none (IsBipolarOf kind sizes cell label n) old (λ e r. none_positive kind sizes cell label n corners e full inside r)
+
+pub all_negative : (kind : Kind) (sizes : List ℕ) (cell label n : ℕ) (old : List Splits.Edge) → label ≡ 0 → Adds (IsBipolarOf kind sizes cell label n) old old
+all_negative kind sizes cell label n old zero_label =
+    adds_none (IsBipolarOf kind sizes cell label n) old (λ e r. none_negative kind sizes cell label n e zero_label r)
 
 -- what holds on success
 pub on_ok : {T E : Type 0} (r : Result T E) (P Q : Type 0) → (P → Q) → OnOk r P → OnOk r Q

@@ -8,3 +8,4 @@ pub mod EdgePlaces
 pub mod Added
 pub mod Ascending
 pub mod Listed
+pub mod CubeCells

@@ -25,7 +25,7 @@ none x c = let h : c.0 < 0 = c.1 in omega arith
 
 -- ---- members of lists that are made of others
 
-passes : {X : Type 0} (p : X → Bool) (xs : List X) (x : X) → Contains (filter p xs) x → p x ≡ true
+pub passes : {X : Type 0} (p : X → Bool) (xs : List X) (x : X) → Contains (filter p xs) x → p x ≡ true
 passes p [] x c = absurd (none x c)
 passes {X} p (y ∷ xs) x c = go (p y) refl (passes p xs x) c
   where
@@ -33,7 +33,7 @@ passes {X} p (y ∷ xs) x c = go (p y) refl (passes p xs x) c
     go true e later c = elim (Contains-split x y (filter p xs) c) as (λ _. p x ≡ true) [ inl s ↦ ap p (sym s) ∙ e | inr m ↦ later m ]
     go false e later c = later c
 
-filtered : {X : Type 0} (p : X → Bool) (xs : List X) (x : X) → p x ≡ true → Contains xs x → Contains (filter p xs) x
+pub filtered : {X : Type 0} (p : X → Bool) (xs : List X) (x : X) → p x ≡ true → Contains xs x → Contains (filter p xs) x
 filtered p [] x h c = absurd (none x c)
 filtered {X} p (y ∷ xs) x h c = go (p y) refl (Contains-split x y xs c) (filtered p xs x h)
   where

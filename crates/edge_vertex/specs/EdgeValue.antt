@@ -1,5 +1,5 @@
 -- An edge as contracts see it, and the edges of a cell that are bipolar.
-use Rattle.std.specs.Prelude.{◌≡◌, ℕ, ◌<◌, ◌⊎◌, ◌↔◌, true, List, length, map, reverse, Contains}
+use Rattle.std.specs.Prelude.{◌≡◌, ℕ, ◌+◌, ◌<◌, ◌⊎◌, ◌↔◌, true, List, length, map, reverse, Contains}
 use Rattle.grid_split.specs.declared.split.Edge.{Edge}
 use Rattle.iso_model.specs.declared.Kind.{Kind}
 use Rattle.iso_model.specs.Points.{plus}
@@ -30,6 +30,10 @@ IsBipolarOf kind sizes cell label n e = (k : ℕ) × (k < n) × IsBipolarAt kind
 -- an edge that is bipolar in a cell below this one, among those whose numbers are below n
 abbrev pub IsBipolarEdge : Volume → ℕ → ℕ → Splits.Edge → Type 0
 IsBipolarEdge v n cells e = (cell : ℕ) × (cell < cells) × IsBipolarOf v.kind v.sizes cell (label_of v cell) n e
+
+-- an edge that is bipolar in one of this many cells from the first one on, among those whose numbers are below n
+abbrev pub IsBipolarFrom : Volume → ℕ → ℕ → ℕ → Splits.Edge → Type 0
+IsBipolarFrom v n first count e = (rank : ℕ) × (rank < count) × IsBipolarOf v.kind v.sizes (first + rank) (label_of v (first + rank)) n e
 
 -- the members of the one list are those of the other and the edges of which P holds
 abbrev pub Adds : (Splits.Edge → Type 0) → List Splits.Edge → List Splits.Edge → Type 0

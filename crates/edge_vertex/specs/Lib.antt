@@ -1,3 +1,4 @@
 pub mod EdgeValue
 pub mod Ends
+pub mod NearbyHash
 pub mod Sums

@@ -2,16 +2,21 @@ ghost use Rattle.std.specs.Prelude.{◌≡◌, ◌+◌, ◌<◌, ◌≤◌, Some
 ghost use Rattle.iso_model.specs.Bipolar.{place_in};
 ghost use Rattle.edge_vertex.specs.EdgeValue.{edge_of, edges_of};
 
+use crate::nearby::NearbyHasher;
 use grid_split::Edge;
 use indexmap::IndexSet;
+use std::hash::BuildHasherDefault;
 use std::marker::Model;
+
+/// A set of edges that keeps an order and is searched by a hash under which near edges stand near each other.
+pub(crate) type EdgeSet<const D: usize> = IndexSet<Edge<D>, BuildHasherDefault<NearbyHasher>>;
 
 /// Edges, each once, in an order of their own. The place of an edge is its number, counted from 0.
 ///
 /// Contracts see a list of edges.
 #[derive(Drop)]
 pub struct EdgeList<const D: usize> {
-    pub(crate) edges: IndexSet<Edge<D>>,
+    pub(crate) edges: EdgeSet<D>,
 }
 
 impl<const D: usize> Model for EdgeList<D> {

@@ -1,22 +1,24 @@
-ghost use Rattle.std.specs.Prelude.{◌≡◌, ℕ, ◌+◌, ◌^◌, ◌<◌, ◌≤◌, ◌↔◌, None, Contains, length, OnOk, IfOk, unsigned_abs, reverse, IsSortedByKey, IsPermutation, slice_index_or};
+ghost use Rattle.std.specs.Prelude.{◌≡◌, ℕ, ◌+◌, ◌*◌, ◌^◌, [], ◌<◌, ◌≤◌, ◌↔◌, None, Contains, length, OnOk, IfOk, unsigned_abs, reverse, IsSortedByKey, IsPermutation, slice_index_or};
 ghost use Rattle.std.specs.Ordering.{nat_cmp};
 ghost use Rattle.std.specs.Cmp.Lexicographic.{slice_cmp};
 ghost use Rattle.iso_model.specs.Cells.{is_set as is_set_in};
 ghost use Rattle.iso_model.specs.Points.{plus};
 ghost use Rattle.iso_model.specs.Bipolar.{is_bipolar_in};
-ghost use Rattle.iso_model.specs.Splits.{cell_count, Edge as GridEdge};
+ghost use Rattle.iso_model.specs.Splits.{cube_count, cell_count, Edge as GridEdge};
 ghost use Rattle.iso_model.specs.Values.{IsRegularGrid, volume, label_of as label_in};
 ghost use Rattle.cell_lattice.specs.Dimensions.{IsDimension};
-ghost use Rattle.edge_vertex.specs.EdgeValue.{edge_of, edges_of, Adds, IsBipolarOf, IsBipolarAt, IsBipolarEdge, order_of};
+ghost use Rattle.edge_vertex.specs.EdgeValue.{edge_of, edges_of, Adds, IsBipolarOf, IsBipolarAt, IsBipolarFrom, IsBipolarEdge, order_of};
 ghost use Rattle.iso_model.specs.Bipolar.{bipolar_edges};
 
-use crate::edges::EdgeList;
+use crate::edges::{EdgeList, EdgeSet};
 use crate::labels::{know_axes, label_of};
 use grid_split::{Complex, Edge, Split};
 use indexmap::IndexSet;
 use iso_base::Memory;
+use mixed_cubes::mixed_cubes;
 use nrrd_raw::Grid;
 use std::alloc::Global;
+use std::hash::BuildHasherDefault;
 
 /// All bipolar edges of the cells, each once, in ascending order of midpoints, last coordinate first. The grid has the
 /// sizes of the complex, and the isovalue lies from -2^40 to 2^40.
@@ -40,30 +42,76 @@ pub fn bipolar<C: Split<D>, const D: usize>(
     Ok(EdgeList { edges })
 }
 
-// The bipolar edges of all cells, in the order in which they are found.
+// The bipolar edges of all cells, in the order in which they are found. Those of cubes that are not mixed have none.
 fn all_bipolar<C: Split<D>, const D: usize>(
     alloc: Global,
     complex: &Complex<C, D>,
     grid: &Grid,
     iso: i64,
-) -> Result<IndexSet<Edge<D>>, Memory>
+) -> Result<EdgeSet<D>, Memory>
     requires regular { IsRegularGrid grid.now }
     requires sizes { complex.now ≡ grid.now.sizes }
     requires axes { length complex.now ≡ D }
     requires iso { unsigned_abs iso ≤ 2 ^ 40 }
     ensures { IfOk result (λ edges. (e : GridEdge) → Contains (edges_of edges.keys) e ↔ IsBipolarEdge (volume C.KIND grid.now iso None) C.EDGES (cell_count C.KIND grid.now.sizes) e) }
 {
-    let mut edges = IndexSet::new(alloc);
-    for cell in 0..complex.cells() {
-        let label = label_of(complex, cell, grid, iso);
-        add_cell(&mut edges, complex, cell, label)?;
+    let cubes = mixed_cubes(alloc, grid, iso)?;
+    let mut edges = room_for(alloc, cubes.len())?;
+    for cube in &cubes {
+        add_cube(&mut edges, complex, *cube, grid, iso)?;
     }
     Ok(edges)
 }
 
+// No edges, and room for this many.
+fn room_for<const D: usize>(alloc: Global, count: usize) -> Result<EdgeSet<D>, Memory>
+    requires { IsDimension D }
+    ensures { IfOk result (λ edges. edges.keys ≡ []) }
+{
+    match IndexSet::with_capacity_and_hasher(alloc, count, BuildHasherDefault::new()) {
+        Ok(edges) => Ok(edges),
+        Err(_) => Err(Memory),
+    }
+}
+
+// Adds the bipolar edges of the cells of a cube.
+fn add_cube<C: Split<D>, const D: usize>(
+    edges: &mut EdgeSet<D>,
+    complex: &Complex<C, D>,
+    cube: u64,
+    grid: &Grid,
+    iso: i64,
+) -> Result<(), Memory>
+    requires cube { cube < cube_count complex.now }
+    requires regular { IsRegularGrid grid.now }
+    requires sizes { complex.now ≡ grid.now.sizes }
+    requires axes { length complex.now ≡ D }
+    requires iso { unsigned_abs iso ≤ 2 ^ 40 }
+    ensures { OnOk result (Adds (IsBipolarFrom (volume C.KIND grid.now iso None) C.EDGES (cube * C.PER_CUBE) C.PER_CUBE) (edges_of edges.old.keys) (edges_of edges.new.keys)) }
+{
+    let first = first_cell(complex, cube);
+    for rank in 0..C::PER_CUBE {
+        let cell = first + u64::from(rank);
+        let label = label_of(complex, cell, grid, iso);
+        add_cell(edges, complex, cell, label)?;
+    }
+    Ok(())
+}
+
+// The first cell of a cube.
+fn first_cell<C: Split<D>, const D: usize>(complex: &Complex<C, D>, cube: u64) -> u64
+    requires { cube < cube_count complex.now }
+    ensures first { result ≡ cube * C.PER_CUBE }
+    ensures cells { result + C.PER_CUBE ≤ cell_count C.KIND complex.now }
+    ensures few { cell_count C.KIND complex.now ≤ 2 ^ 32 }
+{
+    let _ = complex.cells();
+    cube * u64::from(C::PER_CUBE)
+}
+
 // Adds the bipolar edges of a cell with this label.
 fn add_cell<C: Split<D>, const D: usize>(
-    edges: &mut IndexSet<Edge<D>>,
+    edges: &mut EdgeSet<D>,
     complex: &Complex<C, D>,
     cell: u64,
     label: u32,
@@ -87,7 +135,7 @@ fn add_cell<C: Split<D>, const D: usize>(
 
 // Adds an edge of a cell with this label, where it is bipolar.
 fn add_if<C: Split<D>, const D: usize>(
-    edges: &mut IndexSet<Edge<D>>,
+    edges: &mut EdgeSet<D>,
     complex: &Complex<C, D>,
     cell: u64,
     label: u32,
@@ -129,7 +177,7 @@ fn is_set(label: u32, corner: u8) -> bool
 }
 
 // Adds an edge, unless it is there.
-fn add<const D: usize>(edges: &mut IndexSet<Edge<D>>, edge: Edge<D>) -> Result<(), Memory>
+fn add<const D: usize>(edges: &mut EdgeSet<D>, edge: Edge<D>) -> Result<(), Memory>
     requires { IsDimension D }
     ensures { OnOk result (Adds (λ e. edge_of edge.entry ≡ e) (edges_of edges.old.keys) (edges_of edges.new.keys)) }
 {
@@ -140,7 +188,7 @@ fn add<const D: usize>(edges: &mut IndexSet<Edge<D>>, edge: Edge<D>) -> Result<(
 }
 
 // Puts edges in ascending order of their midpoints, last coordinate first.
-fn sort_edges<const D: usize>(edges: &mut IndexSet<Edge<D>>) -> Result<(), Memory>
+fn sort_edges<const D: usize>(edges: &mut EdgeSet<D>) -> Result<(), Memory>
     requires { IsDimension D }
     ensures sorted { OnOk result (IsSortedByKey order_of (slice_cmp nat_cmp) edges.new.keys) }
     ensures apart { OnOk result ((k : ℕ) (d : Edge D) → k + 1 < length edges.new.keys → slice_index_or edges.new.keys k d ≡ slice_index_or edges.new.keys (k + 1) d → ⊥) }

@@ -8,6 +8,7 @@ mod crossings;
 mod edges;
 mod found;
 mod labels;
+mod nearby;
 #[cfg(test)]
 mod tests;
 mod values;

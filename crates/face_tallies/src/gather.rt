@@ -34,9 +34,11 @@ impl TallyRoom {
     }
 }
 
-/// Gathers the faces of tuples into tallies, in place of what they held.
+/// Gathers the faces of tuples into tallies, in place of what they held: each face that some tuple has, once, in
+/// ascending order of the sets' numbers. The edges of tuples are numbers below 32, and there are at most 2^28 tuples.
 ///
-/// Takes time in proportion to the number of tuples, and sorts only the different faces.
+/// Takes time in proportion to the number of tuples, and sorts only the different faces. Where memory is refused, the
+/// tallies are of no use.
 pub fn tally<const D: usize>(
     tuples: &[[u8; D]],
     room: &mut TallyRoom,

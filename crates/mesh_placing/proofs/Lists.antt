@@ -1,28 +1,58 @@
 -- Lists that are made member by member.
-use Rattle.std.proofs.Common.{◌≡◌, ◌≢◌, ℕ, zero, suc, ◌+◌, ◌<◌, Bool, true, List, [], ◌∷◌, ◌++◌, length, map, take, get_or, refl, sym, ap, ◌∙◌, arith, add-one, append_assoc, below_more, get_or-set_other, get_or-set_same}
-use Rattle.std.specs.Prelude.{filter, flat_map, slice_index, slice_index_or, slice_set}
+use Rattle.std.proofs.Common.{◌≡◌, ◌≢◌, ℕ, zero, suc, ◌+◌, ◌*◌, ◌<◌, Bool, true, false, List, [], ◌∷◌, ◌++◌, length, map, take, get_or, refl, sym, ap, ◌∙◌, arith, append_assoc, below_more, get_or-set_other, get_or-set_same}
+use Rattle.std.specs.Prelude.{Contains, if◌then◌else◌, filter, flat_map, slice_index, slice_index_or, slice_set}
 use Rattle.std.specs.List.{range_with_len, swap}
 use Rattle.std.proofs.Math.ListN.{length-set}
 use Rattle.std.proofs.lemmas.List.{take_more, map-append, flat_map_more, get_or-map, length-map}
+use Rattle.std.proofs.lemmas.Grind.{flat_map-append}
 use Rattle.std.proofs.lemmas.List.Edits.{swap_is}
 use Rattle.iso_model.specs.Orders.{numbers, exchange_last}
+use Rattle.iso_model.proofs.FaceLaws.{Contains-head, Contains-tail}
+use Rattle.mixed_cubes.proofs.Rows.{range_joined}
 use Rattle.split_laws.proofs.Coordinates.{lists_same}
 
 -- ---- numbers
 
-range_push : (a n : ℕ) → range_with_len a (suc n) ≡ range_with_len a n ++ (a + n) ∷ []
-range_push a zero = let same : a ≡ a + 0 = omega arith in ap (λ (k : ℕ). k ∷ []) same
-range_push a (suc n) =
-    let same : (a + 1) + n ≡ a + suc n = omega arith in
-    ap (λ (xs : List ℕ). a ∷ xs) (range_push (a + 1) n ∙ ap (λ (m : ℕ). range_with_len (a + 1) n ++ m ∷ []) same)
-
-pub numbers_more : (n : ℕ) → numbers (n + 1) ≡ numbers n ++ n ∷ []
-numbers_more n = let same : 0 + n ≡ n = omega arith in rw add-one (range_push 0 n ∙ ap (λ (m : ℕ). range_with_len 0 n ++ m ∷ []) same)
+range_more : (a n : ℕ) → range_with_len a (n + 1) ≡ range_with_len a n ++ (a + n) ∷ []
+range_more a n = range_joined a n 1
 
 -- one number more
-pub flat_map-numbers_more : {Y : Type 0} (f : ℕ → List Y) (n : ℕ) (ys next : List Y) → ys ≡ flat_map f (numbers n) → next ≡ ys ++ f n → next ≡ flat_map f (numbers (n + 1))
-flat_map-numbers_more {Y} f n ys next before now =
-    now ∙ ap (λ (zs : List Y). zs ++ f n) before ∙ flat_map_more f [] (numbers n) n ∙ ap (flat_map f) (sym (numbers_more n))
+pub flat_map-range_more : {Y : Type 0} (f : ℕ → List Y) (a n : ℕ) (front ys next : List Y) → ys ≡ front ++ flat_map f (range_with_len a n) → next ≡ ys ++ f (a + n) → next ≡ front ++ flat_map f (range_with_len a (n + 1))
+flat_map-range_more {Y} f a n front ys next before now =
+    now ∙ ap (λ (zs : List Y). zs ++ f (a + n)) before ∙ flat_map_more f front (range_with_len a n) (a + n) ∙ ap (λ (xs : List ℕ). front ++ flat_map f xs) (sym (range_more a n))
+
+-- one member more
+pub flat_map-take_more : {X Y : Type 0} (f : X → List Y) (xs : List X) (i : ℕ) (d : X) (ys next : List Y) → i < length xs → ys ≡ flat_map f (take i xs) → next ≡ ys ++ f (get_or xs i d) → next ≡ flat_map f (take (i + 1) xs)
+flat_map-take_more {X} {Y} f xs i d ys next h before now =
+    now ∙ ap (λ (zs : List Y). zs ++ f (get_or xs i d)) before ∙ flat_map_more f [] (take i xs) (get_or xs i d) ∙ ap (flat_map f) (sym (take_more xs i d h))
+
+-- the numbers below a product, piece by piece
+pub flat_map-numbers_times : {Y : Type 0} (f : ℕ → List Y) (n m : ℕ) → flat_map (λ c. flat_map f (range_with_len (c * m) m)) (numbers n) ≡ flat_map f (numbers (n * m))
+flat_map-numbers_times f zero m = let none : zero * m ≡ 0 = omega arith in ap (λ (k : ℕ). flat_map f (numbers k)) (sym none)
+flat_map-numbers_times {Y} f (suc n) m =
+    let G : ℕ → List Y = λ c. flat_map f (range_with_len (c * m) m) in
+    let one : suc n ≡ n + 1 = omega arith in
+    let zero_first : 0 + n ≡ n = omega arith in
+    let more : flat_map G (numbers (suc n)) ≡ flat_map G (numbers n) ++ G n =
+    ap (λ (k : ℕ). flat_map G (numbers k)) one ∙ sym (flat_map-range_more G 0 n [] (flat_map G (numbers n)) (flat_map G (numbers n) ++ G (0 + n)) refl refl) ∙ ap (λ (k : ℕ). flat_map G (numbers n) ++ G k) zero_first in
+    let whole : suc n * m ≡ n * m + m = omega arith in
+    let place : 0 + n * m ≡ n * m = omega arith in
+    let split : numbers (suc n * m) ≡ numbers (n * m) ++ range_with_len (n * m) m = ap numbers whole ∙ range_joined 0 (n * m) m ∙ ap (λ (k : ℕ). numbers (n * m) ++ range_with_len k m) place in
+    more ∙ ap (λ (zs : List Y). zs ++ G n) (flat_map-numbers_times f n m) ∙ sym (flat_map-append f (numbers (n * m)) (range_with_len (n * m) m)) ∙ ap (flat_map f) (sym split)
+
+-- members that give nothing
+pub flat_map-empty : {X Y : Type 0} (f : X → List Y) (xs : List X) → ((x : X) → Contains xs x → f x ≡ []) → flat_map f xs ≡ []
+flat_map-empty f [] h = refl
+flat_map-empty f (x ∷ xs) h = rw (h x (Contains-head x xs), flat_map-empty f xs (λ y c. h y (Contains-tail y x xs c))) refl
+
+-- members that give nothing may be left out
+pub flat_map-filter : {X Y : Type 0} (f : X → List Y) (p : X → Bool) (xs : List X) → ((x : X) → Contains xs x → p x ≡ false → f x ≡ []) → flat_map f (filter p xs) ≡ flat_map f xs
+flat_map-filter f p [] h = refl
+flat_map-filter {X} {Y} f p (x ∷ xs) h = go (p x) refl (flat_map-filter f p xs (λ y c e. h y (Contains-tail y x xs c) e))
+  where
+    go : (b : Bool) → p x ≡ b → flat_map f (filter p xs) ≡ flat_map f xs → flat_map f (if b then x ∷ filter p xs else filter p xs) ≡ f x ++ flat_map f xs
+    go true e rest = ap (λ (zs : List Y). f x ++ zs) rest
+    go false e rest = rest ∙ ap (λ (zs : List Y). zs ++ flat_map f xs) (sym (h x (Contains-head x xs) e))
 
 -- a test that all pass keeps all
 pub filter_all : {X : Type 0} (p : X → Bool) (xs : List X) → ((x : X) → p x ≡ true) → filter p xs ≡ xs
@@ -54,9 +84,6 @@ set_next P d xs a n v long inside before here =
     )
 
 -- ---- the last two places exchanged
-
-two_last : (x y : ℕ) → exchange_last (x ∷ y ∷ []) ≡ swap (x ∷ y ∷ []) 0 1
-two_last x y = refl
 
 -- exchanging the last two places is a swap
 pub exchange_last-is : (i : ℕ) (w : List ℕ) → length w ≡ i + 2 → exchange_last w ≡ swap w i (i + 1)

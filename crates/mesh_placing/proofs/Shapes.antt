@@ -1,5 +1,5 @@
 -- What holds of each placed mesh of a table whose entries have only bipolar edges: its dimension, and that its simplices are made of its vertices.
-use Rattle.std.proofs.Common.{◌≡◌, ℕ, ◌<◌, true, List, [], ◌∷◌, length, None, ℤ, refl, sym, ap, ◌∙◌, subst, arith, inl, inr}
+use Rattle.std.proofs.Common.{◌≡◌, ℕ, ◌<◌, List, [], ◌∷◌, length, None, ℤ, refl, sym, ap, ◌∙◌, subst, arith, inl, inr}
 use Rattle.std.specs.Prelude.{map, flat_map, All, Contains, slice_index_or}
 use Rattle.std.proofs.lemmas.List.{length-map}
 use Rattle.std.proofs.lemmas.List.FromFn.{length-map-range_with_len}
@@ -11,13 +11,12 @@ use Rattle.iso_model.specs.Values.{Grid, Volume, volume, cells, is_kept, label_o
 use Rattle.iso_model.specs.Bipolar.{bipolar_edges, place_in}
 use Rattle.iso_model.specs.Crossing.{crossing, vertex_of}
 use Rattle.iso_model.specs.Faces.{IsMesh}
-use Rattle.iso_model.specs.Tables.{Table, entry_of, IsTable, IsEntry}
-use Rattle.iso_model.specs.Acceptance.{rule_edges}
+use Rattle.iso_model.specs.Tables.{Table, entry_of, IsEntry}
 use Rattle.iso_model.specs.Orders.{numbers}
 use Rattle.iso_model.specs.Placed.{placed_tuple, cell_simplices, placed_mesh}
 use Rattle.iso_model.proofs.FaceLaws.{Contains-head, Contains-tail}
 use Rattle.edge_vertex.proofs.LabelSums.{label_few}
-use Rattle.mesh_placing.specs.Placing.{ListsEdges}
+use Rattle.mesh_placing.specs.Placing.{ListsEdges, FitsGrid}
 use Rattle.mesh_placing.proofs.Lists.{filter_all}
 use Rattle.mesh_placing.proofs.CellEdges.{bipolar_edge-listed, bipolar_edges-crossed, place_below}
 use Rattle.mesh_placing.proofs.Tuples.{bipolar_tuples, length-placed_tuple, All-placed_tuple}
@@ -45,28 +44,21 @@ length-crossing : (e : Edge) (low high iso : ℤ) → length (crossing e low hig
 unfolding crossing
 length-crossing e low high iso = length-map-range_with_len _ 0 (length e.low)
 
--- a table of cells of this kind in the dimension of the grid, whose entries have only the bipolar edges of their labels, and all of them
-pub record Suits (kind : Kind) (g : Grid) (t : Table) : Type 0 where
-  pub table : IsTable t
-  pub same_kind : t.kind ≡ kind
-  pub same_dimension : t.dimension ≡ length g.sizes
-  pub rule : (label : ℕ) → label < label_count kind (length g.sizes) → rule_edges kind (length g.sizes) label (entry_of t label) ≡ true
-
-module _ (kind : Kind) (g : Grid) (iso : ℤ) (t : Table) (suits : Suits kind g t) where
-  abbrev here : Volume
+module _ (kind : Kind) (g : Grid) (iso : ℤ) (t : Table) (fits : FitsGrid kind g t) where
+  abbrev pub here : Volume
   here = volume kind g iso None
 
-  has : HasDimension kind (length g.sizes)
-  has = subst (λ (d : ℕ). HasDimension kind d) suits.same_dimension (subst (λ (k : Kind). HasDimension k t.dimension) suits.same_kind suits.table.fits)
+  pub has : HasDimension kind (length g.sizes)
+  has = subst (λ (d : ℕ). HasDimension kind d) fits.same_dimension (subst (λ (k : Kind). HasDimension k t.dimension) fits.same_kind fits.table.fits)
 
-  labelled : (cell : ℕ) → label_of here cell < label_count kind (length g.sizes)
+  pub labelled : (cell : ℕ) → label_of here cell < label_count kind (length g.sizes)
   labelled cell = label_few here cell
 
-  entry_sound : (label : ℕ) → label < label_count kind (length g.sizes) → IsEntry kind (length g.sizes) (entry_of t label)
+  pub entry_sound : (label : ℕ) → label < label_count kind (length g.sizes) → IsEntry kind (length g.sizes) (entry_of t label)
   entry_sound label h =
-      let labels : label_count t.kind t.dimension ≡ label_count kind (length g.sizes) = ap (λ (k : Kind). label_count k t.dimension) suits.same_kind ∙ ap (label_count kind) suits.same_dimension in
-      let inside : label < length t.entries = omega (arith, h, labels, suits.table.whole) in
-      subst (λ (d : ℕ). IsEntry kind d (entry_of t label)) suits.same_dimension (subst (λ (k : Kind). IsEntry k t.dimension (entry_of t label)) suits.same_kind (suits.table.sound label [] inside))
+      let labels : label_count t.kind t.dimension ≡ label_count kind (length g.sizes) = ap (λ (k : Kind). label_count k t.dimension) fits.same_kind ∙ ap (label_count kind) fits.same_dimension in
+      let inside : label < length t.entries = omega (arith, h, labels, fits.table.whole) in
+      subst (λ (d : ℕ). IsEntry kind d (entry_of t label)) fits.same_dimension (subst (λ (k : Kind). IsEntry k t.dimension (entry_of t label)) fits.same_kind (fits.table.sound label [] inside))
 
   -- a placed mesh has the dimension of the grid
   pub placed_mesh-shape : IsMesh (length g.sizes) (placed_mesh here t)
@@ -92,7 +84,7 @@ module _ (kind : Kind) (g : Grid) (iso : ℤ) (t : Table) (suits : Suits kind g 
       let place : ℕ → ℕ = λ e. place_in edges (edge kind g.sizes cell e) in
       let below = labelled cell in
       let sound = entry_sound label below in
-      let bipolar = bipolar_tuples kind (length g.sizes) label (entry_of t label) (suits.rule label below) in
+      let bipolar = bipolar_tuples kind (length g.sizes) label (entry_of t label) (fits.keeps_edges label below) in
       All-map (All P) (placed_tuple (is_odd_cell kind g.sizes cell) place) (entry_of t label) (λ k w h.
       All-placed_tuple P (is_odd_cell kind g.sizes cell) place (slice_index_or (entry_of t label) k w) (λ j e i.
       let placed : place (slice_index_or (slice_index_or (entry_of t label) k w) j e) < length edges = lists_edges here has cell c (slice_index_or (slice_index_or (entry_of t label) k w) j e) ((sound.1 k w h).1 j e i) (bipolar k w h j e i) in

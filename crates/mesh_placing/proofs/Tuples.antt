@@ -1,18 +1,23 @@
 -- The tuples of an entry that has only bipolar edges, placed.
-use Rattle.std.proofs.Common.{◌≡◌, ℕ, suc, ◌<◌, Bool, true, false, List, [], ◌∷◌, length, refl, ap, ◌∙◌}
-use Rattle.std.specs.Prelude.{map, All, slice_index, slice_index_or, not, ◌==◌, ◌&&◌, ◌||◌, if◌then◌else◌}
+use Rattle.std.proofs.Common.{◌≡◌, ℕ, suc, ◌+◌, ◌-◌, ◌^◌, ◌<◌, Bool, true, false, List, [], ◌∷◌, length, refl, sym, ap, ◌∙◌, arith, inl, inr}
+use Rattle.std.specs.Prelude.{◌⊎◌, map, All, slice_index, slice_index_or, not, ◌==◌, ◌&&◌, ◌||◌, if◌then◌else◌}
 use Rattle.std.specs.List.{list_all, list_any}
+use Rattle.std.proofs.lemmas.Bool.{false≢true}
+use Rattle.std.proofs.lemmas.Nat.Bits.{bit_at-zero, bit_at_ones}
 use Rattle.std.proofs.lemmas.List.{length-map}
 use Rattle.std.proofs.lemmas.List.Elements.{All-cons, All-map}
 use Rattle.iso_model.specs.declared.Kind.{Kind}
 use Rattle.iso_model.specs.Orders.{numbers, is_distinct, exchange_last, has}
-use Rattle.iso_model.specs.Cells.{edge_count}
+use Rattle.iso_model.specs.Cells.{HasDimension, edge_count, edge_ends, corner_count, label_count, is_set}
 use Rattle.iso_model.specs.Splits.{Edge, edge, is_odd_cell}
-use Rattle.iso_model.specs.Bipolar.{is_bipolar_in, place_in}
+use Rattle.iso_model.specs.Bipolar.{differ, is_bipolar_in, place_in}
+use Rattle.iso_model.specs.Tables.{IsEntry}
 use Rattle.iso_model.specs.Acceptance.{is_sound_tuple, rule_edges}
 use Rattle.iso_model.specs.Placed.{placed_tuple}
 use Rattle.iso_model.proofs.Deciding.{All-from_each, both}
+use Rattle.iso_model.proofs.DimensionLaws.{dimension_cases}
 use Rattle.iso_model.proofs.TableLaws.{All_head, All_tail}
+use Rattle.split_laws.proofs.Passed.{ends_are_corners}
 use Rattle.split_laws.proofs.Members.{In_from, all_In}
 use Rattle.mesh_placing.specs.Placing.{ArePlaces, placed_tuples}
 
@@ -68,3 +73,42 @@ length-placed_tuple false f w = length-map w f
 pub All-placed_tuple : (P : ℕ → Type 0) (odd : Bool) (f : ℕ → ℕ) (w : List ℕ) → All (λ e. P (f e)) w → All P (placed_tuple odd f w)
 All-placed_tuple P true f w a = All-exchange_last P (map f w) (All-map P f w a)
 All-placed_tuple P false f w a = All-map P f w a
+
+-- ---- entries of labels in which all corners have one sign
+
+same_signs : (a b : Bool) → a ≡ b → differ a b ≡ false
+same_signs true true e = refl
+same_signs true false e = absurd (false≢true (sym e))
+same_signs false true e = absurd (false≢true e)
+same_signs false false e = refl
+
+-- no edge is bipolar where all corners have one sign
+none_bipolar : (kind : Kind) (d label e : ℕ) → HasDimension kind d → e < edge_count kind d → (label ≡ 0) ⊎ (label + 1 ≡ label_count kind d) → is_bipolar_in kind d label e ≡ false
+none_bipolar kind d label e has_it he (inl none) =
+    let ends = edge_ends kind d e in
+    same_signs (is_set label ends.0) (is_set label ends.1) (unset ends.0 ∙ sym (unset ends.1))
+  where
+    unset : (k : ℕ) → is_set label k ≡ false
+    unset k = rw (none, bit_at-zero k) refl
+none_bipolar kind d label e has_it he (inr all) =
+    let ends = edge_ends kind d e in
+    let corners = ends_are_corners kind d (dimension_cases kind d has_it) has_it e he in
+    same_signs (is_set label ends.0) (is_set label ends.1) (put ends.0 corners.0 ∙ sym (put ends.1 corners.1))
+  where
+    full : label ≡ 2 ^ corner_count kind d - 1
+    full = omega (arith, all)
+
+    put : (k : ℕ) → k < corner_count kind d → is_set label k ≡ true
+    put k h = rw (full, bit_at_ones (corner_count kind d) k h) refl
+
+-- the entry of such a label is empty
+pub plain_entry : (kind : Kind) (d label : ℕ) (ws : List (List ℕ)) → HasDimension kind d → rule_edges kind d label ws ≡ true → IsEntry kind d ws → (label ≡ 0) ⊎ (label + 1 ≡ label_count kind d) → ws ≡ []
+plain_entry kind d label [] has_it rule sound plain = refl
+plain_entry kind d label (w ∷ ws) has_it rule sound plain =
+    let tuple = sound.1 0 w (omega arith) in
+    let long : length w ≡ d = tuple.0 in
+    let some : 0 < length w = elim (dimension_cases kind d has_it) as (λ _. 0 < length w) [ inl h ↦ omega (arith, long, h) | inr (inl h) ↦ omega (arith, long, h) | inr (inr h) ↦ omega (arith, long, h) ] in
+    let first : ℕ = slice_index_or w 0 0 in
+    let below : first < edge_count kind d = tuple.1 0 0 some in
+    let bipolar : is_bipolar_in kind d label first ≡ true = bipolar_tuples kind d label (w ∷ ws) rule 0 w (omega arith) 0 0 some in
+    absurd (false≢true (sym (none_bipolar kind d label first has_it below plain) ∙ bipolar))

@@ -1,13 +1,23 @@
 -- What is made of each bipolar edge and of each cell: a vertex, and the placed tuples of an entry.
-use Rattle.std.specs.Prelude.{◌≡◌, ℕ, ◌<◌, true, List, length, map, slice_index, ℤ}
+use Rattle.std.specs.Prelude.{◌≡◌, ℕ, ◌*◌, ◌<◌, true, List, length, map, slice_index, ℤ}
+use Rattle.std.specs.List.{range_with_len}
 use Rattle.iso_model.specs.declared.Kind.{Kind}
-use Rattle.iso_model.specs.Cells.{edge_count}
-use Rattle.iso_model.specs.Splits.{Edge, edge, is_odd_cell}
+use Rattle.iso_model.specs.Cells.{edge_count, label_count}
+use Rattle.iso_model.specs.Splits.{Edge, edge, is_odd_cell, cells_per_cube}
 use Rattle.iso_model.specs.Values.{Grid, HasValue, value_at, is_positive}
 use Rattle.iso_model.specs.Bipolar.{differ, is_bipolar_in, place_in}
 use Rattle.iso_model.specs.Crossing.{crossing}
+use Rattle.iso_model.specs.Tables.{Table, IsTable, entry_of}
+use Rattle.iso_model.specs.Acceptance.{rule_edges}
 use Rattle.iso_model.specs.Placed.{placed_tuple}
 use Rattle.edge_vertex.specs.Ends.{AreNear}
+
+-- a table fits a grid: it is one of cells of this kind in the dimension of the grid, and each entry has the bipolar edges of its label and no others
+pub record FitsGrid (kind : Kind) (g : Grid) (t : Table) : Type 0 where
+  pub table : IsTable t
+  pub same_kind : t.kind ≡ kind
+  pub same_dimension : t.dimension ≡ length g.sizes
+  pub keeps_edges : (label : ℕ) → label < label_count kind (length g.sizes) → rule_edges kind (length g.sizes) label (entry_of t label) ≡ true
 
 -- an edge of a grid can be crossed at an isovalue: both ends have values, they are near, and one is positive and the other is not
 pub record IsCrossed (g : Grid) (iso : ℤ) (e : Edge) : Type 0 where
@@ -34,3 +44,7 @@ ArePlaces kind d sizes edges cell label n places =
 abbrev pub placed_tuples : Kind → List ℕ → List Edge → ℕ → List (List ℕ) → List (List ℕ)
 placed_tuples kind sizes edges cell tuples =
     map (placed_tuple (is_odd_cell kind sizes cell) (λ e. place_in edges (edge kind sizes cell e))) tuples
+
+-- the cells of a cube, by their numbers
+abbrev pub cube_cells : Kind → ℕ → ℕ → List ℕ
+cube_cells kind d cube = range_with_len (cube * cells_per_cube kind d) (cells_per_cube kind d)

@@ -1,17 +1,18 @@
 ghost use Rattle.std.specs.Prelude.{◌≡◌, ℕ, ◌^◌, ◌<◌, ◌≤◌, true, None, ◌++◌, length, map, flat_map, slice_index, OnOk, IfOk, All, unsigned_abs};
 ghost use Rattle.iso_model.specs.Cells.{label_count};
-ghost use Rattle.iso_model.specs.Splits.{cell_count};
+ghost use Rattle.iso_model.specs.Splits.{cell_count, cube_count};
 ghost use Rattle.iso_model.specs.Values.{IsRegularGrid, volume, cells};
 ghost use Rattle.iso_model.specs.Tables.{entry_of};
 ghost use Rattle.iso_model.specs.Bipolar.{bipolar_edges};
 ghost use Rattle.iso_model.specs.Acceptance.{rule_edges};
 ghost use Rattle.iso_model.specs.Placed.{placed_tuple as placed_tuple_of, cell_simplices};
-ghost use Rattle.mesh_placing.specs.Placing.{ListsEdges, placed_tuples};
+ghost use Rattle.mesh_placing.specs.Placing.{FitsGrid, ListsEdges, cube_cells, placed_tuples};
 
 use crate::places::{MOST_EDGES, cell_places};
 use edge_vertex::{EdgeList, label_of};
 use grid_split::{Complex, Split};
 use iso_base::Memory;
+use mixed_cubes::mixed_cubes;
 use nrrd_raw::Grid;
 use std::alloc::Global;
 use table_file::Table;
@@ -25,20 +26,56 @@ pub fn all_simplices<C: Split<D>, const D: usize>(
     edges: &EdgeList<D>,
     iso: i64,
 ) -> Result<Vec<[u32; D]>, Memory>
-    requires kind { table.now.kind ≡ C.KIND }
-    requires edges { (label : ℕ) → label < label_count C.KIND D → rule_edges C.KIND D label (entry_of table.now label) ≡ true }
+    requires fits { FitsGrid C.KIND grid.now table.now }
     requires regular { IsRegularGrid grid.now }
     requires sizes { complex.now ≡ grid.now.sizes }
+    requires axes { length grid.now.sizes ≡ D }
     requires iso { unsigned_abs iso ≤ 2 ^ 40 }
     requires listed { edges.now ≡ bipolar_edges (volume C.KIND grid.now iso None) }
     ensures { IfOk result (λ simplices. simplices.items ≡ flat_map (cell_simplices (volume C.KIND grid.now iso None) table.now edges.now) (cells (volume C.KIND grid.now iso None))) }
 {
+    let cubes = mixed_cubes(alloc, grid, iso)?;
     let mut simplices = Vec::new(alloc);
-    for cell in 0..complex.cells() {
-        let label = label_of(complex, cell, grid, iso);
-        add_cell(&mut simplices, complex, table, edges, cell, label)?;
+    for cube in &cubes {
+        add_cube(&mut simplices, complex, table, grid, edges, iso, *cube)?;
     }
     Ok(simplices)
+}
+
+// Adds the simplices of the cells of a cube.
+fn add_cube<C: Split<D>, const D: usize>(
+    simplices: &mut Vec<[u32; D]>,
+    complex: &Complex<C, D>,
+    table: &Table<D>,
+    grid: &Grid,
+    edges: &EdgeList<D>,
+    iso: i64,
+    cube: u64,
+) -> Result<(), Memory>
+    requires fits { FitsGrid C.KIND grid.now table.now }
+    requires regular { IsRegularGrid grid.now }
+    requires sizes { complex.now ≡ grid.now.sizes }
+    requires iso { unsigned_abs iso ≤ 2 ^ 40 }
+    requires listed { edges.now ≡ bipolar_edges (volume C.KIND grid.now iso None) }
+    requires cube { cube < cube_count grid.now.sizes }
+    ensures { OnOk result (simplices.new.items ≡ simplices.old.items ++ flat_map (cell_simplices (volume C.KIND grid.now iso None) table.now edges.now) (cube_cells C.KIND D cube)) }
+{
+    know_complex(complex);
+    let per_cube = u64::from(C::PER_CUBE);
+    let first = cube * per_cube;
+    for cell in first..first + per_cube {
+        let label = label_of(complex, cell, grid, iso);
+        add_cell(simplices, complex, table, edges, cell, label)?;
+    }
+    Ok(())
+}
+
+// A complex has as many axes as its cells, and few cells.
+fn know_complex<C: Split<D>, const D: usize>(complex: &Complex<C, D>)
+    ensures axes { length complex.now ≡ D }
+    ensures few { cell_count C.KIND complex.now ≤ 2 ^ 32 }
+{
+    let _ = complex.cells();
 }
 
 // Adds the simplices of a cell with this label.

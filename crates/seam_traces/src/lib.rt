@@ -14,6 +14,8 @@
 mod facets;
 mod places;
 mod table_traces;
+#[cfg(test)]
+mod tests;
 mod walks;
 
 pub use table_traces::Traces;

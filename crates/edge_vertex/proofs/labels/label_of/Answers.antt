@@ -4,7 +4,8 @@ use Rattle.iso_model.specs.Cells.{HasDimension, corner_count}
 use Rattle.iso_model.specs.Splits.{cells_per_cube, corner}
 use Rattle.iso_model.specs.Values.{HasValue, volume, positive_at, is_positive, value_at}
 use Rattle.cell_lattice.specs.Dimensions.{IsDimension}
-use Rattle.edge_vertex.proofs.LabelSums.{powers_below, powers_few, next_label, whole_label}
+use Rattle.mixed_cubes.proofs.Powers.{powers_below, powers_few}
+use Rattle.edge_vertex.proofs.LabelSums.{next_label, whole_label}
 use Rattle.edge_vertex.proofs.Corners.{corner_value, few_corners}
 use Rattle.edge_vertex.proofs.labels.label_of.Goals as goal
 

@@ -1,7 +1,7 @@
 use Rattle.std.proofs.Common.{◌≡◌, None}
 use Rattle.iso_model.specs.Splits.{corner}
 use Rattle.iso_model.specs.Values.{volume, positive_at}
-use Rattle.edge_vertex.proofs.LabelSums.{powers_below}
+use Rattle.mixed_cubes.proofs.Powers.{powers_below}
 use Rattle.edge_vertex.proofs.labels.label_of.Given as goal
 
 abbrev pub invariant-loop-corner : goal.invariant-loop-corner

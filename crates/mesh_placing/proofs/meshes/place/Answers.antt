@@ -1,18 +1,19 @@
 use Rattle.std.proofs.Common.{rules, ◌≡◌, ℕ, ◌<◌, true, List, length, map, None, ℤ, w64, to_z, of_z, sym, ap, ◌∙◌, subst}
 use Rattle.std.specs.Prelude.{All, flat_map}
 use Rattle.std.proofs.lemmas.Int.{to_z-of_z}
+use Rattle.iso_model.specs.declared.Kind.{Kind}
 use Rattle.iso_model.specs.Cells.{HasDimension, label_count}
 use Rattle.iso_model.specs.Splits.{Edge}
-use Rattle.iso_model.specs.Values.{Volume, volume, cells}
+use Rattle.iso_model.specs.Values.{Grid, Volume, volume, cells}
 use Rattle.iso_model.specs.Bipolar.{bipolar_edges}
 use Rattle.iso_model.specs.Crossing.{vertex_of}
 use Rattle.iso_model.specs.Faces.{Mesh, IsMesh}
-use Rattle.iso_model.specs.Tables.{Table, entry_of}
+use Rattle.iso_model.specs.Tables.{Table, IsTable, entry_of}
 use Rattle.iso_model.specs.Acceptance.{rule_edges}
 use Rattle.iso_model.specs.Placed.{cell_simplices, placed_mesh}
-use Rattle.mesh_placing.specs.Placing.{IsCrossed}
+use Rattle.mesh_placing.specs.Placing.{FitsGrid, IsCrossed}
 use Rattle.mesh_placing.proofs.CellEdges.{bipolar_edges-crossed}
-use Rattle.mesh_placing.proofs.Shapes.{Suits, placed_mesh-shape, placed_mesh-vertices}
+use Rattle.mesh_placing.proofs.Shapes.{placed_mesh-shape, placed_mesh-vertices}
 use Rattle.mesh_placing.proofs.meshes.place.Goals as goal
 
 pub all_vertices-requires : goal.all_vertices-requires
@@ -38,20 +39,25 @@ returns-clause-mesh g c =
     mesh_is (volume g.C.Cell.KIND c.args.grid.now (to_z w64 (of_z w64 c.args.iso)) None) c.args.table.now c.in_ok-edges.edges m c.in_ok-edges.ensures c.in_ok-vertices.ensures c.in_ok-simplices.ensures in
     is ∙ ap (λ (z : ℤ). placed_mesh (volume g.C.Cell.KIND c.args.grid.now z None) c.args.table.now) iso
 
--- what the table keeps for this grid
-suits : (g : _) (c : goal.After-drop-edges-inside-5 g) → Suits g.C.Cell.KIND c.args.grid.now c.args.table.now
-suits g c = record {
-  table = c.kind.ensures.table;
-  same_kind = c.requires.kind;
-  same_dimension = c.kind.ensures.dimension ∙ sym c.requires.axes;
-  rule = subst (λ (d : ℕ). (label : ℕ) → label < label_count g.C.Cell.KIND d → rule_edges g.C.Cell.KIND d label (entry_of c.args.table.now label) ≡ true) (sym c.requires.axes) c.requires.edges;
+-- the table fits the grid
+fits_grid : (kind : Kind) (d : ℕ) (grid : Grid) (t : Table) → IsTable t → t.kind ≡ kind → t.dimension ≡ d → length grid.sizes ≡ d → ((label : ℕ) → label < label_count kind d → rule_edges kind d label (entry_of t label) ≡ true) → FitsGrid kind grid t
+fits_grid kind d grid t table same_kind same_dimension axes keeps = record {
+  table = table;
+  same_kind = same_kind;
+  same_dimension = same_dimension ∙ sym axes;
+  keeps_edges = subst (λ (n : ℕ). (label : ℕ) → label < label_count kind n → rule_edges kind n label (entry_of t label) ≡ true) (sym axes) keeps;
 }
+
+pub all_simplices-requires : goal.all_simplices-requires
+all_simplices-requires g c =
+    let fits : FitsGrid g.C.Cell.KIND c.args.grid.now c.args.table.now = fits_grid g.C.Cell.KIND g.row.D c.args.grid.now c.args.table.now c.kind.ensures.table c.requires.kind c.kind.ensures.dimension c.requires.axes c.requires.edges in
+    search (rules, fits, c.requires.regular, c.requires.axes, c.in_ok-edges.ensures)
 
 pub returns-clause-shape : goal.returns-clause-shape
 returns-clause-shape g c =
     subst (λ (d : ℕ). IsMesh d (record { vertices = c.in_ok-vertices.vertices.items; simplices = c.in_ok-simplices.simplices.items })) c.requires.axes
-    (subst (IsMesh (length c.args.grid.now.sizes)) (sym (returns-clause-mesh g c)) (placed_mesh-shape g.C.Cell.KIND c.args.grid.now c.args.iso c.args.table.now (suits g c)))
+    (subst (IsMesh (length c.args.grid.now.sizes)) (sym (returns-clause-mesh g c)) (placed_mesh-shape g.C.Cell.KIND c.args.grid.now c.args.iso c.args.table.now (fits_grid g.C.Cell.KIND g.row.D c.args.grid.now c.args.table.now c.kind.ensures.table c.requires.kind c.kind.ensures.dimension c.requires.axes c.requires.edges)))
 
 pub returns-clause-vertices : goal.returns-clause-vertices
 returns-clause-vertices g c =
-    subst (λ (m : Mesh). All (All (λ n. n < length m.vertices)) m.simplices) (sym (returns-clause-mesh g c)) (placed_mesh-vertices g.C.Cell.KIND c.args.grid.now c.args.iso c.args.table.now (suits g c))
+    subst (λ (m : Mesh). All (All (λ n. n < length m.vertices)) m.simplices) (sym (returns-clause-mesh g c)) (placed_mesh-vertices g.C.Cell.KIND c.args.grid.now c.args.iso c.args.table.now (fits_grid g.C.Cell.KIND g.row.D c.args.grid.now c.args.table.now c.kind.ensures.table c.requires.kind c.kind.ensures.dimension c.requires.axes c.requires.edges))

@@ -1,9 +1,9 @@
-use Rattle.std.proofs.Common.{◌≡◌, None}
+use Rattle.std.proofs.Common.{◌≡◌, take, length, None}
 use Rattle.std.specs.Prelude.{flat_map}
-use Rattle.iso_model.specs.Orders.{numbers}
 use Rattle.iso_model.specs.Values.{volume}
 use Rattle.iso_model.specs.Placed.{cell_simplices}
+use Rattle.mesh_placing.specs.Placing.{cube_cells}
 use Rattle.mesh_placing.proofs.simplices.all_simplices.Given as goal
 
-abbrev pub invariant-loop-cell : goal.invariant-loop-cell
-invariant-loop-cell g l = l.simplices.items ≡ flat_map (cell_simplices (volume g.C.Cell.KIND l.grid l.iso None) l.table l.edges) (numbers l.cell)
+abbrev pub invariant-loop-cube : goal.invariant-loop-cube
+invariant-loop-cube g l = l.simplices.items ≡ flat_map (λ cube. flat_map (cell_simplices (volume g.C.Cell.KIND l.grid l.iso None) l.table l.edges) (cube_cells g.C.Cell.KIND (length l.grid.sizes) cube)) (take l.cube-index l.cube-items)

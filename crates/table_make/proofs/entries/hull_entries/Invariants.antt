@@ -1,0 +1,7 @@
+use Rattle.std.proofs.Common.{map}
+use Rattle.table_make.specs.HullEntries.{AreHullEntries}
+use Rattle.table_make.proofs.entries.hull_entries.Given as goal
+
+-- the entries of the labels so far
+abbrev pub invariant-loop-label : goal.invariant-loop-label
+invariant-loop-label g l = AreHullEntries g.C.Cell.KIND g.row.D l.label (map (λ entry. entry.items) l.entries.items)

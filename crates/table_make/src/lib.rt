@@ -1,0 +1,10 @@
+//! The tables of the convex hull construction: for each labelling of a cell's corners the simplices of its isosurface
+//! patch. After Bhaniramka, Wenger and Crawfis, "Isosurface construction in any dimension using convex hulls" (2004).
+#![tactic(auto)]
+
+mod entries;
+mod generated;
+#[cfg(test)]
+mod tests;
+
+pub use generated::make;
