@@ -1,6 +1,6 @@
 -- What the work on a mesh answers, as an answer of a run.
-use Rattle.std.proofs.Common.{◌≡◌, ◌≤◌, ℕ, length, List, Option, None, IsSome, refl, sym, subst, ◌∙◌, inl, inr, drop, take-append-drop, arith}
-use Rattle.std.specs.Prelude.{ℤ, Result, Ok, Err, OnOk, OnErr}
+use Rattle.std.proofs.Common.{◌≡◌, ◌≤◌, ℕ, length, List, Option, Some, None, IsSome, sym, subst, inl, inr, drop, take-append-drop, arith}
+use Rattle.std.specs.Prelude.{IsTrue, Result, Ok, Err, OnOk, OnErr}
 use Rattle.std.proofs.lemmas.List.{take_all}
 use Rattle.std.specs.List.{AllByRecursion}
 use Rattle.std.specs.Io.KnownBytes.{Appends}
@@ -8,34 +8,17 @@ use Rattle.iso_base.specs.Faults.{CountsFaults, Rose}
 use Rattle.iso_base.specs.declared.outside.Failed.{Failed}
 use Rattle.iso_base.specs.Files.{Files, bytes_of}
 use Rattle.iso_base.specs.Fronts.{AppendsFront}
-use Rattle.iso_model.specs.Commands.{AreRight, Command, IsWrongWord, generate_command, check_command, extract_command, demo_command}
-use Rattle.iso_model.specs.GridFile.{SpellsGrid}
-use Rattle.iso_model.specs.Tables.{Table}
-use Rattle.iso_model.specs.Values.{Grid}
+use Rattle.iso_model.specs.Commands.{AreRight, Command, IsWrongWord, Say, generate_command, check_command, extract_command, demo_command}
 use Rattle.iso_words.specs.Built.{is_built}
 use Rattle.iso_cli.specs.declared.status.Status.{Status}
 use Rattle.iso_cli.specs.declared.status.Status.TheVariants as Statuses
-use Rattle.iso_cli.specs.Refusals.{FileHas, HoldBoth, HoldTable, IsRefusedGrid, by_grid}
-use Rattle.iso_cli.specs.Runs.{BlamesOutput, IsAnswerable, IsTrueAnswer, IsTrueOf, LacksFile, LeavesShelf, PutsLine, ServesWell, files_named}
-use Rattle.iso_cli.specs.Statuses.{IsDecided, IsDoneOrMemory, IsMemoryOrNotYet, IsOfGrid}
+use Rattle.iso_cli.specs.Refusals.{FileHas}
+use Rattle.iso_cli.specs.Runs.{AreRefused, HoldNeeded, IsAnswerable, IsTrueAnswer, IsTrueOf, LacksFile, LeavesShelf, PutsLine, SayBuilt, ServesWell, files_named}
+use Rattle.iso_cli.specs.Outputs.{BlamesOutput}
+use Rattle.iso_cli.specs.Statuses.{IsDecided, IsDoneOrMemory, IsUsage}
 use Rattle.iso_cli.specs.StatusLines.{status_line}
-
--- ---- kinds of statuses
-
-grid_not_yet : (status : Status) → IsOfGrid status → status ≡ Statuses.NotYet → ⊥
-grid_not_yet status kind is = subst IsOfGrid is kind
-
-memory_undecided : (status : Status) → IsMemoryOrNotYet status → IsDecided status → ⊥
-memory_undecided Statuses.Memory kind decided = decided
-memory_undecided Statuses.NotYet kind decided = decided
-memory_undecided Statuses.Done kind decided = kind
-memory_undecided (Statuses.Usage place) kind decided = kind
-memory_undecided (Statuses.ShelfFault count) kind decided = kind
-memory_undecided (Statuses.WriteFault count) kind decided = kind
-memory_undecided (Statuses.TableForm form) kind decided = kind
-memory_undecided (Statuses.GridForm cause) kind decided = kind
-memory_undecided (Statuses.GridLarge count) kind decided = kind
-memory_undecided (Statuses.Unfit table grid) kind decided = kind
+use Rattle.iso_cli.proofs.Excluding.{WrongEdgesStop, not_refused_check, not_refused_mesh}
+use Rattle.iso_cli.proofs.Saying.{said_once}
 
 -- ---- the files
 
@@ -43,29 +26,24 @@ memory_undecided (Statuses.Unfit table grid) kind decided = kind
 pub file_stays : (now files : Option Files) (name : List ℕ) (P : List ℕ → Type 0) → now ≡ files → FileHas now name P → FileHas files name P
 file_stays now files name P same has = subst (λ (fs : Option Files). FileHas fs name P) same has
 
--- a grid that was not read is refused behind the table that the files hold
-pub grid_answer : (files now : Option Files) (table grid : List ℕ) (iso : ℤ) (t : Table) (d : ℕ) (status : Status) → now ≡ files → d ≡ t.dimension
-    → FileHas files table (λ bytes. HoldTable bytes t) → IsOfGrid status → (IsDecided status → FileHas now grid (λ bytes. IsRefusedGrid d bytes status))
-    → IsTrueOf files status (extract_command table grid iso)
-grid_answer files now table grid iso t d status same fits held kind refused = record {
-  refused = λ decided. by_grid t held (file_stays now files grid (λ bytes. IsRefusedGrid t.dimension bytes status) same
-      (subst (λ (n : ℕ). FileHas now grid (λ bytes. IsRefusedGrid n bytes status)) fits (refused decided)));
-  not_yet = λ is. absurd (grid_not_yet status kind is);
-}
+-- ---- the words
 
--- both files hold what was read of them
-pub both_held : (files now : Option Files) (table grid : List ℕ) (t : Table) (g : Grid) (d : ℕ) → now ≡ files → d ≡ t.dimension
-    → FileHas files table (λ bytes. HoldTable bytes t) → FileHas now grid (λ bytes. SpellsGrid bytes g) → d ≡ length g.sizes → HoldBoth files table grid t g
-both_held files now table grid t g d same fits held spelled count = record {
-  table = held;
-  grid = file_stays now files grid (λ bytes. SpellsGrid bytes g) same spelled;
-  fits = sym fits ∙ count;
-}
+-- what is true for the command that the words say is true for the words
+pub said_answer : (files : Option Files) (words : List (List ℕ)) (status : Status) (command : Command) → (IsUsage status → ⊥) → IsTrue (is_built command) → Say words command
+    → IsTrueOf files status command → IsTrueAnswer files words status
+said_answer files words (Statuses.Usage place) command known built said true_of = absurd (known tt)
+said_answer files words _ command known built said true_of = (command, built, said, true_of)
 
--- a mesh that is not built
-pub mesh_answer : (files : Option Files) (table grid : List ℕ) (iso : ℤ) (t : Table) (g : Grid) (status : Status) → HoldBoth files table grid t g → IsMemoryOrNotYet status
-    → IsTrueOf files status (extract_command table grid iso)
-mesh_answer files table grid iso t g status held kind = record { refused = λ decided. absurd (memory_undecided status kind decided); not_yet = λ is. (t, g, held) }
+-- what a command leaves of the shelf, the words leave
+pub said_shelf : {S : Type 0} (faults : S → ℕ) (files : S → Option Files) (sound : S → Type 0) (words : List (List ℕ)) (status : Status) (old new : S) (command : Command)
+    → IsTrue (is_built command) → Say words command → LeavesShelf faults files sound (LacksFile (files old) command) status old new
+    → LeavesShelf faults files sound (SayBuilt words (LacksFile (files old))) status old new
+said_shelf faults files sound words status old new command built said leaves = record {
+  same = leaves.same;
+  blamed = leaves.blamed;
+  missing = λ is_sound fault. (command, built, said, leaves.missing is_sound fault);
+  untouched = leaves.untouched;
+}
 
 -- ---- the line
 
@@ -111,7 +89,7 @@ all_there files (demo_command kind d size seed) there lacks = lacks
 
 -- a shelf that serves well is not blamed
 not_blamed : {S : Type 0} (faults : S → ℕ) (files : S → Option Files) (sound : S → Type 0) (words : List (List ℕ)) (count : ℕ) (old new : S)
-    → LeavesShelf faults files sound words (Statuses.ShelfFault count) old new → ServesWell faults files sound words old new → ⊥
+    → LeavesShelf faults files sound (SayBuilt words (LacksFile (files old))) (Statuses.ShelfFault count) old new → ServesWell faults files sound words old new → ⊥
 not_blamed faults files sound words count old new leaves (inl never) = never leaves.blamed.0
 not_blamed faults files sound words count old new leaves (inr serves) =
     let lacks = leaves.missing serves.0 tt in
@@ -119,15 +97,37 @@ not_blamed faults files sound words count old new leaves (inr serves) =
 
 -- where the outside serves well and no refusal holds, the output is whole, or memory was refused
 pub complete : {S : Type 0} (faults : S → ℕ) (files : S → Option Files) (sound : S → Type 0) (words : List (List ℕ)) (status : Status) (old new : S) (before now : ℕ)
-    → IsTrueAnswer (files old) words status → LeavesShelf faults files sound words status old new → BlamesOutput status before now
+    → IsTrueAnswer (files old) words status → LeavesShelf faults files sound (SayBuilt words (LacksFile (files old))) status old new → BlamesOutput status before now
     → ¬ Rose before now → ServesWell faults files sound words old new → IsAnswerable (files old) words → IsDoneOrMemory status
 complete faults files sound words Statuses.Done old new before now true_of leaves blames never serves may = tt
 complete faults files sound words Statuses.Memory old new before now true_of leaves blames never serves may = tt
 complete faults files sound words (Statuses.WriteFault count) old new before now true_of leaves blames never serves may = absurd (never blames.0)
 complete faults files sound words (Statuses.ShelfFault count) old new before now true_of leaves blames never serves may = absurd (not_blamed faults files sound words count old new leaves serves)
 complete faults files sound words (Statuses.Usage place) old new before now true_of leaves blames never serves may = absurd (not_wrong words place may.0 true_of)
-complete faults files sound words Statuses.NotYet old new before now true_of leaves blames never serves may = absurd (may.1 Statuses.NotYet (inr refl) true_of)
-complete faults files sound words (Statuses.TableForm form) old new before now true_of leaves blames never serves may = absurd (may.1 (Statuses.TableForm form) (inl tt) true_of)
-complete faults files sound words (Statuses.GridForm cause) old new before now true_of leaves blames never serves may = absurd (may.1 (Statuses.GridForm cause) (inl tt) true_of)
-complete faults files sound words (Statuses.GridLarge count) old new before now true_of leaves blames never serves may = absurd (may.1 (Statuses.GridLarge count) (inl tt) true_of)
-complete faults files sound words (Statuses.Unfit table grid) old new before now true_of leaves blames never serves may = absurd (may.1 (Statuses.Unfit table grid) (inl tt) true_of)
+complete faults files sound words (Statuses.TableForm form) old new before now true_of leaves blames never serves may = absurd (may.1 (Statuses.TableForm form) tt true_of)
+complete faults files sound words (Statuses.TableRefused label r) old new before now true_of leaves blames never serves may = absurd (may.1 (Statuses.TableRefused label r) tt true_of)
+complete faults files sound words (Statuses.GridForm cause) old new before now true_of leaves blames never serves may = absurd (may.1 (Statuses.GridForm cause) tt true_of)
+complete faults files sound words (Statuses.GridLarge count) old new before now true_of leaves blames never serves may = absurd (may.1 (Statuses.GridLarge count) tt true_of)
+complete faults files sound words (Statuses.Unfit table grid) old new before now true_of leaves blames never serves may = absurd (may.1 (Statuses.Unfit table grid) tt true_of)
+
+-- files that hold what a command needs are not refused
+not_refused : (files : Option Files) (command : Command) (status : Status) → WrongEdgesStop → IsSome files → HoldNeeded files command → AreRefused files status command → ⊥
+not_refused None command status stops told holds refused = let none : IsSome {T = Files} None = told in cc
+not_refused (Some files) (generate_command kind d) status stops told holds refused = holds
+not_refused (Some files) (check_command table) status stops told holds refused = not_refused_check files table holds.0 status stops holds.1 refused
+not_refused (Some files) (extract_command table grid iso) status stops told holds refused = not_refused_mesh files table grid holds.0 holds.1 status stops holds.2 refused
+not_refused (Some files) (demo_command kind d size seed) status stops told holds refused = holds
+
+decided_answer : (files : Option Files) (words : List (List ℕ)) (status : Status) → IsDecided status → IsTrueAnswer files words status → SayBuilt words (IsTrueOf files status)
+decided_answer files words (Statuses.Usage place) decided true_of = absurd decided
+decided_answer files words _ decided true_of = true_of
+
+-- where the files hold what the command needs, no refusal holds
+pub answerable : (files : Option Files) (words : List (List ℕ)) → WrongEdgesStop → IsSome files → SayBuilt words (HoldNeeded files) → IsAnswerable files words
+answerable files words stops told said = (
+  (said.0, said.1, said.2),
+  λ status decided true_of.
+      let other = decided_answer files words status decided true_of in
+      not_refused files said.0 status stops told said.3
+      (subst (λ (c : Command). AreRefused files status c) (said_once words other.0 said.0 other.1 said.1 other.2 said.2) (other.3 decided)),
+)

@@ -1,3 +1,7 @@
 pub mod Taking
 pub mod Refusing
+pub mod Accepting
+pub mod Putting
+pub mod Excluding
+pub mod Saying
 pub mod Answering

@@ -44,6 +44,11 @@ not_there files name never = go (bytes_of files name) never
     go None never = refl
     go (Some bytes) never = absurd (never refl)
 
+-- what more holds of the bytes of a file
+pub file_map : (files : Option Files) (name : List ℕ) (P Q : List ℕ → Type 0) → ((bytes : List ℕ) → P bytes → Q bytes) → FileHas files name P → FileHas files name Q
+file_map None name P Q go has = tt
+file_map (Some files) name P Q go has = (has.0, has.1, go has.0 has.2)
+
 -- ---- the table
 
 -- few enough bytes are not too many

@@ -1,6 +1,8 @@
 pub mod StatusLines
 pub mod Causes
 pub mod Statuses
+pub mod Checked
 pub mod Shelves
 pub mod Refusals
+pub mod Outputs
 pub mod Runs

@@ -1,11 +1,12 @@
 -- Which refusals the bytes of the files decide, and what the files hold where they decide none.
 use Rattle.std.specs.Prelude.{◌≡◌, ◌≢◌, ℕ, List, length, Option, Some, None, ⊤}
 use Rattle.iso_base.specs.Files.{Files, file_bytes}
+use Rattle.iso_model.specs.Acceptance.{IsAccepted, IsRefusedAt}
 use Rattle.iso_model.specs.GridFile.{Header, HasHeader, SpellsGrid}
 use Rattle.iso_model.specs.GridFaults.{GridFault, HasHeaderFault, HasSampleFault, wrong_magic, header_too_long, header_unended, unreadable_line, repeated_field, wrong_type, wrong_dimension, wrong_sizes, wrong_encoding, wrong_endian, wrong_skip, detached_data, missing_field, sizes_too_large, data_too_short, data_trailing}
-use Rattle.iso_model.specs.Tables.{Table}
+use Rattle.iso_model.specs.Tables.{Table, IsTable}
 use Rattle.iso_model.specs.TableFile.{IsTooLong, SpellsTable, TableFault, HasTableFault, magic_fault, kind_fault, edge_fault, short_fault, extra_fault}
-use Rattle.iso_model.specs.Values.{Grid}
+use Rattle.iso_model.specs.Values.{Grid, IsRegularGrid}
 use Rattle.iso_cli.specs.declared.status.Status.{Status}
 use Rattle.iso_cli.specs.declared.status.Status.TheVariants as Statuses
 use Rattle.iso_cli.specs.declared.status.TableForm.TheVariants as Forms
@@ -32,10 +33,17 @@ table_refusal (edge_fault place) = Statuses.TableForm (Forms.Fault place TableCa
 table_refusal (short_fault place) = Statuses.TableForm (Forms.Fault place TableCauses.Short)
 table_refusal (extra_fault place) = Statuses.TableForm (Forms.Fault place TableCauses.Extra)
 
--- the bytes of a table file are refused: there are too many, or else they have a fault
+-- the bytes of a table file are refused: there are too many, or else they have a fault, or else they are those of a table that fails a rule, the least one of the least label that fails any
 pub data IsRefusedTable (bytes : List ℕ) : Status → Type 0 where
   too_long : IsTooLong bytes → IsRefusedTable bytes (Statuses.TableForm Forms.Long)
   no_table : (fault : TableFault) → ¬ IsTooLong bytes → HasTableFault bytes fault → IsRefusedTable bytes (table_refusal fault)
+  not_accepted : (t : Table) (label r : ℕ) → HoldTable bytes t → IsRefusedAt t label r → IsRefusedTable bytes (Statuses.TableRefused label r)
+
+-- the file of this name holds the table, which is accepted
+pub record HoldsAccepted (files : Option Files) (name : List ℕ) (t : Table) : Type 0 where
+  pub held : FileHas files name (λ bytes. HoldTable bytes t)
+  pub whole : IsTable t
+  pub accepted : IsAccepted t
 
 -- ---- the grid
 
@@ -67,14 +75,15 @@ pub data IsRefusedGrid (d : ℕ) (bytes : List ℕ) : Status → Type 0 where
 
 -- ---- the files of a command
 
--- the files hold a table, and a grid of its dimension
+-- the files hold an accepted table, and a grid of its dimension
 pub record HoldBoth (files : Option Files) (table_name grid_name : List ℕ) (t : Table) (g : Grid) : Type 0 where
-  pub table : FileHas files table_name (λ bytes. HoldTable bytes t)
+  pub table : HoldsAccepted files table_name t
   pub grid : FileHas files grid_name (λ bytes. SpellsGrid bytes g)
+  pub regular : IsRegularGrid g
   pub fits : t.dimension ≡ length g.sizes
 
--- a mesh is refused: its table file is, or that holds a table, and then the grid file is refused for it
+-- a mesh is refused: its table file is, or that holds an accepted table, and then the grid file is refused for it
 pub data IsRefusedMesh (files : Option Files) (table_name grid_name : List ℕ) (status : Status) : Type 0 where
   by_table : FileHas files table_name (λ bytes. IsRefusedTable bytes status) → IsRefusedMesh files table_name grid_name status
-  by_grid : (t : Table) → FileHas files table_name (λ bytes. HoldTable bytes t) → FileHas files grid_name (λ bytes. IsRefusedGrid t.dimension bytes status)
+  by_grid : (t : Table) → HoldsAccepted files table_name t → FileHas files grid_name (λ bytes. IsRefusedGrid t.dimension bytes status)
       → IsRefusedMesh files table_name grid_name status

@@ -1,21 +1,20 @@
 -- What a run of the program promises: its answer, what it leaves of the shelf, what it puts to the output, and the line.
-use Rattle.std.specs.Prelude.{◌≡◌, ◌≤◌, ℕ, List, [], ◌∷◌, Option, None, IsSome, IsTrue, ⊤, ◌⊎◌}
+use Rattle.std.specs.Prelude.{◌≡◌, ◌≤◌, ◌⊎◌, ℕ, ℤ, List, [], ◌∷◌, Option, None, IsSome, IsTrue}
 use Rattle.std.specs.List.{AllByRecursion}
 use Rattle.std.specs.Io.KnownBytes.{Appends}
 use Rattle.iso_base.specs.Faults.{Rose}
 use Rattle.iso_base.specs.Files.{Files, bytes_of}
 use Rattle.iso_base.specs.Fronts.{AppendsFront}
 use Rattle.iso_model.specs.Commands.{Command, Say, generate_command, check_command, extract_command, demo_command, AreRight, IsWrongWord}
-use Rattle.iso_model.specs.Faces.{Mesh, IsMesh}
-use Rattle.iso_model.specs.MeshText.{mesh_text}
 use Rattle.iso_model.specs.Tables.{Table}
 use Rattle.iso_model.specs.Values.{Grid}
 use Rattle.iso_words.specs.Built.{is_built}
 use Rattle.iso_cli.specs.declared.status.Status.{Status}
 use Rattle.iso_cli.specs.declared.status.Status.TheVariants as Statuses
-use Rattle.iso_cli.specs.Refusals.{FileHas, HoldTable, HoldBoth, IsRefusedMesh}
+use Rattle.iso_cli.specs.Outputs.{accepted_line, placed_text}
+use Rattle.iso_cli.specs.Refusals.{FileHas, HoldBoth, HoldsAccepted, IsRefusedMesh, IsRefusedTable}
 use Rattle.iso_cli.specs.Shelves.{IsSameShelf, BlamesShelf}
-use Rattle.iso_cli.specs.Statuses.{IsDecided, IsRefusal, IsShelfFault, IsUsage}
+use Rattle.iso_cli.specs.Statuses.{IsDecided, IsShelfFault, IsUsage}
 use Rattle.iso_cli.specs.StatusLines.{status_line}
 
 -- the words say a command that is built, and this holds of it
@@ -27,30 +26,29 @@ SayBuilt words P = (command : Command) × IsTrue (is_built command) × Say words
 -- the files of a command are refused with this status
 abbrev pub AreRefused : Option Files → Status → Command → Type 0
 AreRefused files status (generate_command kind d) = ⊥
-AreRefused files status (check_command table) = ⊥
+AreRefused files status (check_command table) = FileHas files table (λ bytes. IsRefusedTable bytes status)
 AreRefused files status (extract_command table grid iso) = IsRefusedMesh files table grid status
 AreRefused files status (demo_command kind d size seed) = ⊥
 
--- no refusal holds of a command, and what it asks for is not built yet
-abbrev pub IsNotYet : Option Files → Command → Type 0
-IsNotYet files (generate_command kind d) = ⊥
-IsNotYet files (check_command table) = ⊤
-IsNotYet files (extract_command table grid iso) = (t : Table) × (g : Grid) × HoldBoth files table grid t g
-IsNotYet files (demo_command kind d size seed) = ⊥
-
 -- where the status is a refusal that the files decide, it is the one that they decide for the command
-pub record IsTrueOf (files : Option Files) (status : Status) (command : Command) : Type 0 where
-  pub refused : IsDecided status → AreRefused files status command
-  pub not_yet : status ≡ Statuses.NotYet → IsNotYet files command
+abbrev pub IsTrueOf : Option Files → Status → Command → Type 0
+IsTrueOf files status command = IsDecided status → AreRefused files status command
 
 -- the answer is true of the words and of the files: the words are refused at the first wrong one, and else they say a command, and the files are refused as the status says
 abbrev pub IsTrueAnswer : Option Files → List (List ℕ) → Status → Type 0
 IsTrueAnswer files words (Statuses.Usage place) = IsWrongWord is_built words place
 IsTrueAnswer files words status = SayBuilt words (IsTrueOf files status)
 
--- the words are right, and no refusal holds of them and the files, nor is what they ask for left unbuilt
+-- the words are right, and no refusal holds of them and the files
 abbrev pub IsAnswerable : Option Files → List (List ℕ) → Type 0
-IsAnswerable files words = AreRight is_built words × ((status : Status) → IsDecided status ⊎ (status ≡ Statuses.NotYet) → ¬ IsTrueAnswer files words status)
+IsAnswerable files words = AreRight is_built words × ((status : Status) → IsDecided status → ¬ IsTrueAnswer files words status)
+
+-- the files hold what a command needs: an accepted table, and for a mesh a grid of its dimension
+abbrev pub HoldNeeded : Option Files → Command → Type 0
+HoldNeeded files (generate_command kind d) = ⊥
+HoldNeeded files (check_command table) = (t : Table) × HoldsAccepted files table t
+HoldNeeded files (extract_command table grid iso) = (t : Table) × (g : Grid) × HoldBoth files table grid t g
+HoldNeeded files (demo_command kind d size seed) = ⊥
 
 -- ---- the shelf
 
@@ -65,10 +63,9 @@ files_named (demo_command kind d size seed) = []
 abbrev pub HasNamedFiles : Option Files → List (List ℕ) → Type 0
 HasNamedFiles files words = (command : Command) → Say words command → AllByRecursion (λ name. IsSome (bytes_of files name)) (files_named command)
 
--- a file that a mesh needs is not there: that of the table; or that of the grid, where the other one holds a table
+-- a file that a mesh needs is not there: that of the table; or that of the grid, where the other one holds an accepted table
 abbrev pub LacksMeshFile : Option Files → List ℕ → List ℕ → Type 0
-LacksMeshFile files table grid =
-    (bytes_of files table ≡ None) ⊎ ((t : Table) × FileHas files table (λ bytes. HoldTable bytes t) × (bytes_of files grid ≡ None))
+LacksMeshFile files table grid = (bytes_of files table ≡ None) ⊎ ((t : Table) × HoldsAccepted files table t × (bytes_of files grid ≡ None))
 
 -- a file that a command names is not there, and no file that is read before it is refused
 abbrev pub LacksFile : Option Files → Command → Type 0
@@ -78,11 +75,11 @@ LacksFile files (extract_command table grid iso) = LacksMeshFile files table gri
 LacksFile files (demo_command kind d size seed) = ⊥
 
 -- the shelf is as it was but for its count of faults and what was taken of its files; it is blamed only where its count rose, and with the count after the run; where it was sound,
--- only for a named file that is not there; and for wrong words it is not touched at all
-pub record LeavesShelf {S : Type 0} (faults : S → ℕ) (files : S → Option Files) (sound : S → Type 0) (words : List (List ℕ)) (status : Status) (old new : S) : Type 0 where
+-- only for a file that is lacking; and for wrong words it is not touched at all
+pub record LeavesShelf {S : Type 0} (faults : S → ℕ) (files : S → Option Files) (sound : S → Type 0) (Lacks : Type 0) (status : Status) (old new : S) : Type 0 where
   pub same : IsSameShelf faults files sound old new
   pub blamed : BlamesShelf status (faults old) (faults new)
-  pub missing : sound old → IsShelfFault status → SayBuilt words (LacksFile (files old))
+  pub missing : sound old → IsShelfFault status → Lacks
   pub untouched : IsUsage status → new ≡ old
 
 -- the shelf did not fail, or was sound and has the files that the words name
@@ -91,46 +88,19 @@ ServesWell faults files sound words old new = ¬ Rose (faults old) (faults new) 
 
 -- ---- the output
 
--- a fault of the output is answered only where its count rose, and with the count after it
-abbrev pub BlamesOutput : Status → ℕ → ℕ → Type 0
-BlamesOutput (Statuses.WriteFault count) before now = Rose before now × (count ≡ now)
-BlamesOutput status before now = ⊤
-
--- the text of a mesh of two dimensions, where the files hold a table and a grid of two dimensions
-pub record IsMeshText (files : Option Files) (table grid text : List ℕ) : Type 0 where
+-- the text of the placed mesh of the table and the grid that the files hold, at the isovalue
+pub record IsMeshText (files : Option Files) (table grid : List ℕ) (iso : ℤ) (text : List ℕ) : Type 0 where
   pub t : Table
   pub g : Grid
   pub held : HoldBoth files table grid t g
-  pub mesh : Mesh
-  pub is_mesh : IsMesh 2 mesh
-  pub spelled : text ≡ mesh_text 2 mesh
-
--- this text, or a front of it, was put
-abbrev pub PutsMesh : Option Files → List ℕ → List ℕ → Option (List ℕ) → Option (List ℕ) → Type 0
-PutsMesh files table grid old new = (text : List ℕ) × IsMeshText files table grid text × Appends old new text
-
-abbrev pub PutsFrontOfMesh : Option Files → List ℕ → List ℕ → Option (List ℕ) → Option (List ℕ) → Type 0
-PutsFrontOfMesh files table grid old new = (text : List ℕ) × IsMeshText files table grid text × AppendsFront old new text
+  pub spelled : text ≡ placed_text t g iso
 
 -- the whole output of a command
 abbrev pub IsOutput : Option Files → List ℕ → Command → Type 0
 IsOutput files text (generate_command kind d) = ⊥
-IsOutput files text (check_command table) = ⊥
-IsOutput files text (extract_command table grid iso) = IsMeshText files table grid text
+IsOutput files text (check_command table) = (t : Table) × HoldsAccepted files table t × (text ≡ accepted_line)
+IsOutput files text (extract_command table grid iso) = IsMeshText files table grid iso text
 IsOutput files text (demo_command kind d size seed) = ⊥
-
--- after success the whole output of the command was put, and after a failure of the output a front of it
-abbrev pub PutsOutput : Option Files → List (List ℕ) → Status → Option (List ℕ) → Option (List ℕ) → Type 0
-PutsOutput files words Statuses.Done old new = (text : List ℕ) × SayBuilt words (IsOutput files text) × Appends old new text
-PutsOutput files words (Statuses.WriteFault count) old new = (text : List ℕ) × SayBuilt words (IsOutput files text) × AppendsFront old new text
-PutsOutput files words status old new = ⊤
-
--- the output is as it was after every status but these two; it is blamed only where its count rose, and with the count after the run
-pub record LeavesOutput {O : Type 0} (faults : O → ℕ) (bytes : O → Option (List ℕ)) (files : Option Files) (words : List (List ℕ)) (status : Status) (old new : O) : Type 0 where
-  pub later : faults old ≤ faults new
-  pub blamed : BlamesOutput status (faults old) (faults new)
-  pub refused : IsRefusal status → new ≡ old
-  pub put : PutsOutput files words status (bytes old) (bytes new)
 
 -- ---- the line
 

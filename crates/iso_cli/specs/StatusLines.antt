@@ -20,10 +20,10 @@ status_code (Statuses.Usage word) = 2
 status_code (Statuses.ShelfFault count) = 3
 status_code (Statuses.WriteFault count) = 4
 status_code (Statuses.TableForm form) = 5
+status_code (Statuses.TableRefused label r) = 6
 status_code (Statuses.GridForm cause) = 7
 status_code (Statuses.GridLarge count) = 8
 status_code (Statuses.Unfit table grid) = 9
-status_code Statuses.NotYet = 10
 
 -- a text, and LF
 abbrev pub ended : List ℕ → List ℕ
@@ -80,7 +80,7 @@ status_line (Statuses.Usage word) = counted (codes "usage: word ") word
 status_line (Statuses.ShelfFault count) = counted (codes "shelf fault: ") count
 status_line (Statuses.WriteFault count) = counted (codes "write fault: ") count
 status_line (Statuses.TableForm form) = table_line form
+status_line (Statuses.TableRefused label r) = codes "table refused: label " ++ decimal label ++ codes " rule " ++ decimal r ++ 10 ∷ []
 status_line (Statuses.GridForm cause) = grid_line cause
 status_line (Statuses.GridLarge count) = counted (codes "grid large: ") count
 status_line (Statuses.Unfit table grid) = codes "unfit: table " ++ decimal table ++ codes " grid " ++ decimal grid ++ 10 ∷ []
-status_line Statuses.NotYet = ended (codes "not yet")

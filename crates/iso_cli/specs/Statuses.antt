@@ -19,14 +19,10 @@ abbrev pub IsShelfFault : Status → Type 0
 IsShelfFault (Statuses.ShelfFault count) = ⊤
 IsShelfFault status = ⊥
 
--- the output is blamed
-abbrev pub IsWriteFault : Status → Type 0
-IsWriteFault (Statuses.WriteFault count) = ⊤
-IsWriteFault status = ⊥
-
 -- a refusal that the bytes of the files decide
 abbrev pub IsDecided : Status → Type 0
 IsDecided (Statuses.TableForm form) = ⊤
+IsDecided (Statuses.TableRefused label r) = ⊤
 IsDecided (Statuses.GridForm cause) = ⊤
 IsDecided (Statuses.Unfit table grid) = ⊤
 IsDecided (Statuses.GridLarge count) = ⊤
@@ -49,6 +45,7 @@ abbrev pub IsOfTable : Status → Type 0
 IsOfTable Statuses.Memory = ⊤
 IsOfTable (Statuses.ShelfFault count) = ⊤
 IsOfTable (Statuses.TableForm form) = ⊤
+IsOfTable (Statuses.TableRefused label r) = ⊤
 IsOfTable status = ⊥
 
 -- a refusal that reading the grid may end with
@@ -60,14 +57,16 @@ IsOfGrid (Statuses.GridLarge count) = ⊤
 IsOfGrid (Statuses.Unfit table grid) = ⊤
 IsOfGrid status = ⊥
 
--- how the work on a mesh may end without success
-abbrev pub IsOfMesh : Status → Type 0
-IsOfMesh Statuses.Done = ⊥
-IsOfMesh (Statuses.Usage place) = ⊥
-IsOfMesh status = ⊤
+-- a refusal that reading both files may end with
+abbrev pub IsOfFiles : Status → Type 0
+IsOfFiles Statuses.Done = ⊥
+IsOfFiles (Statuses.Usage place) = ⊥
+IsOfFiles (Statuses.WriteFault count) = ⊥
+IsOfFiles status = ⊤
 
--- memory was refused, or a form is not built yet
-abbrev pub IsMemoryOrNotYet : Status → Type 0
-IsMemoryOrNotYet Statuses.Memory = ⊤
-IsMemoryOrNotYet Statuses.NotYet = ⊤
-IsMemoryOrNotYet status = ⊥
+-- how putting the output may end
+abbrev pub IsOfPutting : Status → Type 0
+IsOfPutting Statuses.Done = ⊤
+IsOfPutting Statuses.Memory = ⊤
+IsOfPutting (Statuses.WriteFault count) = ⊤
+IsOfPutting status = ⊥

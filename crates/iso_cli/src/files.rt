@@ -4,11 +4,14 @@ ghost use Rattle.std.specs.Prelude.{◌≡◌, length, None, IfOk, IfErr};
 ghost use Rattle.iso_base.specs.Files.{bytes_of};
 ghost use Rattle.iso_model.specs.GridFile.{SpellsGrid};
 ghost use Rattle.iso_model.specs.Values.{IsRegularGrid};
-ghost use Rattle.table_file.specs.Reading.{HasOwnDimension, table_in};
-ghost use Rattle.iso_cli.specs.Refusals.{FileHas, HoldTable, IsRefusedGrid, IsRefusedTable};
+ghost use Rattle.table_file.specs.Reading.{table_in};
+ghost use Rattle.iso_cli.specs.Checked.{checked_in};
+ghost use Rattle.iso_cli.specs.Refusals.{FileHas, HoldBoth, HoldTable, HoldsAccepted, IsRefusedGrid, IsRefusedMesh, IsRefusedTable};
+ghost use Rattle.iso_cli.specs.Runs.{LacksMeshFile};
 ghost use Rattle.iso_cli.specs.Shelves.{BlamesShelf, IsSameShelf};
-ghost use Rattle.iso_cli.specs.Statuses.{IsDecided, IsOfGrid, IsOfTable, IsShelfFault};
+ghost use Rattle.iso_cli.specs.Statuses.{IsDecided, IsOfFiles, IsOfGrid, IsOfTable, IsShelfFault};
 
+use crate::checked::{CheckedTable, certify_any, dimension};
 use crate::read::read_front;
 use crate::status::{Status, TableForm};
 use iso_base::Shelf;
@@ -20,14 +23,13 @@ use table_file::{AnyTable, decode};
 const TABLE_LIMIT: usize = 1 << 30;
 
 /// Reads the table of a file.
-pub fn read_table<S: Shelf>(alloc: Global, shelf: &mut S, name: &str) -> Result<AnyTable, Status>
+fn read_table<S: Shelf>(alloc: Global, shelf: &mut S, name: &str) -> Result<AnyTable, Status>
     ensures shelf { IsSameShelf S.faults S.files S.sound shelf.old shelf.new }
     ensures blamed { IfErr result (λ status. BlamesShelf status (S.faults shelf.old) (S.faults shelf.new)) }
     ensures missing { S.sound shelf.old → IfErr result (λ status. IsShelfFault status → bytes_of (S.files shelf.old) name.now ≡ None) }
     ensures kinds { IfErr result IsOfTable }
     ensures refused { IfErr result (λ status. IsDecided status → FileHas (S.files shelf.old) name.now (λ bytes. IsRefusedTable bytes status)) }
     ensures held { IfOk result (λ table. FileHas (S.files shelf.old) name.now (λ bytes. HoldTable bytes (table_in table))) }
-    ensures dimension { IfOk result HasOwnDimension }
 {
     shelf.begin(name)?;
     let bytes = read_front(alloc, shelf, TABLE_LIMIT + 1)?;
@@ -37,8 +39,25 @@ pub fn read_table<S: Shelf>(alloc: Global, shelf: &mut S, name: &str) -> Result<
     Ok(decode(alloc, &bytes)?)
 }
 
+/// Reads the table of a file, which the check is to accept.
+pub fn read_checked<S: Shelf>(
+    alloc: Global,
+    shelf: &mut S,
+    name: &str,
+) -> Result<CheckedTable, Status>
+    ensures shelf { IsSameShelf S.faults S.files S.sound shelf.old shelf.new }
+    ensures blamed { IfErr result (λ status. BlamesShelf status (S.faults shelf.old) (S.faults shelf.new)) }
+    ensures missing { S.sound shelf.old → IfErr result (λ status. IsShelfFault status → bytes_of (S.files shelf.old) name.now ≡ None) }
+    ensures kinds { IfErr result IsOfTable }
+    ensures refused { IfErr result (λ status. IsDecided status → FileHas (S.files shelf.old) name.now (λ bytes. IsRefusedTable bytes status)) }
+    ensures held { IfOk result (λ table. HoldsAccepted (S.files shelf.old) name.now (checked_in table)) }
+{
+    let table = read_table(alloc, shelf, name)?;
+    certify_any(alloc, table)
+}
+
 /// Reads the grid of a file, which is to have as many axes as a table has dimensions.
-pub fn read_grid<S: Shelf>(
+fn read_grid<S: Shelf>(
     alloc: Global,
     shelf: &mut S,
     name: &str,
@@ -62,4 +81,24 @@ pub fn read_grid<S: Shelf>(
         });
     }
     Ok(read_samples(alloc, shelf, &header)?)
+}
+
+/// Reads the table of a file, which the check is to accept, and then the grid of another, which is to have as many
+/// axes as the table has dimensions.
+pub fn read_both<S: Shelf>(
+    alloc: Global,
+    shelf: &mut S,
+    table: &str,
+    grid: &str,
+) -> Result<(CheckedTable, Grid), Status>
+    ensures shelf { IsSameShelf S.faults S.files S.sound shelf.old shelf.new }
+    ensures blamed { IfErr result (λ status. BlamesShelf status (S.faults shelf.old) (S.faults shelf.new)) }
+    ensures missing { S.sound shelf.old → IfErr result (λ status. IsShelfFault status → LacksMeshFile (S.files shelf.old) table.now grid.now) }
+    ensures kinds { IfErr result IsOfFiles }
+    ensures refused { IfErr result (λ status. IsDecided status → IsRefusedMesh (S.files shelf.old) table.now grid.now status) }
+    ensures held { IfOk result (λ both. HoldBoth (S.files shelf.old) table.now grid.now (checked_in both.0) both.1) }
+{
+    let table = read_checked(alloc, shelf, table)?;
+    let grid = read_grid(alloc, shelf, grid, dimension(&table))?;
+    Ok((table, grid))
 }

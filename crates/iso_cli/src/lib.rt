@@ -1,13 +1,13 @@
 //! The top call of the program: words, files, and the text that is put.
 #![tactic(auto)]
 
+mod checked;
 mod files;
 mod line;
+mod output;
 mod program;
 mod read;
-mod squares;
 mod status;
-mod vertices;
 
 pub use line::status_text;
 pub use program::run;

@@ -20,10 +20,10 @@ pub fn status_text(status: &Status) -> ArrayString<128>
         Status::ShelfFault(count) => counted("shelf fault: ", *count),
         Status::WriteFault(count) => counted("write fault: ", *count),
         Status::TableForm(form) => table_text(form),
+        Status::TableRefused { label, rule } => table_refused(*label, *rule),
         Status::GridForm(cause) => grid_text(cause),
         Status::GridLarge(count) => counted("grid large: ", *count),
         Status::Unfit { table, grid } => unfit(*table, *grid),
-        Status::NotYet => line("not yet"),
     }
 }
 
@@ -80,6 +80,20 @@ fn table_fault(place: u64, cause: TableCause) -> ArrayString<128>
     text.push_str(" ");
     let mut digits = itoa::Buffer::new();
     text.push_str(digits.format(place));
+    text.push_str("\n");
+    text
+}
+
+fn table_refused(label: u32, rule: u8) -> ArrayString<128>
+    ensures { result.bytes ≡ status_line (Status.TableRefused label rule) }
+{
+    let mut text = ArrayString::new();
+    text.push_str("table refused: label ");
+    let mut digits = itoa::Buffer::new();
+    text.push_str(digits.format(label));
+    text.push_str(" rule ");
+    let mut digits = itoa::Buffer::new();
+    text.push_str(digits.format(rule));
     text.push_str("\n");
     text
 }

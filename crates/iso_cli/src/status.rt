@@ -28,14 +28,14 @@ pub enum Status {
     WriteFault(u64),
     /// The table file is no table.
     TableForm(TableForm),
+    /// The table is not accepted: the least label that fails a rule, and the least rule, from 1 to 6, that it fails.
+    TableRefused { label: u32, rule: u8 },
     /// The grid file is no grid of samples.
     GridForm(GridCause),
     /// The grid has more than 2^27 samples: their number.
     GridLarge(u128),
     /// The table and the grid have different dimensions.
     Unfit { table: u8, grid: u8 },
-    /// What the words ask for is not built yet.
-    NotYet,
 }
 
 /// Why a file is no table.
@@ -109,10 +109,10 @@ impl Status {
             Status::ShelfFault(_) => 3,
             Status::WriteFault(_) => 4,
             Status::TableForm(_) => 5,
+            Status::TableRefused { .. } => 6,
             Status::GridForm(_) => 7,
             Status::GridLarge(_) => 8,
             Status::Unfit { .. } => 9,
-            Status::NotYet => 10,
         }
     }
 }

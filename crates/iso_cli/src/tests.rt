@@ -29,6 +29,44 @@ const SQUARE: [u8; 112] = [
     0, 0, 0, 0,
 ];
 
+// The table of the simplex of two dimensions.
+#[rattlefmt::skip]
+const TRIANGLE: [u8; 60] = [
+    b'H', b'U', b'L', b'L', b'T', b'A', b'B', b'1',
+    1, 2, 3, 3, 0, 0, 0, 8,
+    0, 0, 0, 0,
+    0, 0, 0, 1, 0, 1,
+    0, 0, 0, 1, 2, 0,
+    0, 0, 0, 1, 2, 1,
+    0, 0, 0, 1, 1, 2,
+    0, 0, 0, 1, 0, 2,
+    0, 0, 0, 1, 1, 0,
+    0, 0, 0, 0,
+];
+
+// The table of the simplex of three dimensions.
+#[rattlefmt::skip]
+const TETRAHEDRON: [u8; 140] = [
+    b'H', b'U', b'L', b'L', b'T', b'A', b'B', b'1',
+    1, 3, 4, 6, 0, 0, 0, 16,
+    0, 0, 0, 0,
+    0, 0, 0, 1, 0, 2, 1,
+    0, 0, 0, 1, 0, 3, 4,
+    0, 0, 0, 2, 1, 4, 2, 1, 3, 4,
+    0, 0, 0, 1, 1, 5, 3,
+    0, 0, 0, 2, 0, 2, 5, 0, 5, 3,
+    0, 0, 0, 2, 0, 1, 5, 0, 5, 4,
+    0, 0, 0, 1, 2, 5, 4,
+    0, 0, 0, 1, 2, 4, 5,
+    0, 0, 0, 2, 0, 5, 1, 0, 4, 5,
+    0, 0, 0, 2, 0, 5, 2, 0, 3, 5,
+    0, 0, 0, 1, 1, 3, 5,
+    0, 0, 0, 2, 1, 2, 4, 1, 4, 3,
+    0, 0, 0, 1, 0, 4, 3,
+    0, 0, 0, 1, 0, 1, 2,
+    0, 0, 0, 0,
+];
+
 const HEADER: &str = "NRRD0001\ntype: uint8\ndimension: 2\nsizes: 2 2\nencoding: raw\n\n";
 
 // A header as a scanner's tools write it: comments, a pair, fields that are passed over, and CR LF.
@@ -49,14 +87,33 @@ operator:=first trial\r
 \r
 ";
 
-const WORDS: &str = "extract table=square.tab grid=first.nrrd iso=5";
+const WORDS: &str = "extract table=table.tab grid=grid.nrrd iso=5";
 
 const FIRST: &str = "nOFF\n2\n2 1 0\n0.500000 0.000000\n0.000000 0.500000\n2 0 1\n";
 
-// A run over the table of the square and a grid file, with calls that fail.
+// The mesh around one sample of a cube that is split into six simplices.
+const TETRAHEDRA: &str = "OFF
+7 6 0
+0.500000 0.000000 0.000000
+0.000000 0.500000 0.000000
+0.500000 0.500000 0.000000
+0.000000 0.000000 0.500000
+0.500000 0.000000 0.500000
+0.000000 0.500000 0.500000
+0.500000 0.500000 0.500000
+3 0 6 2
+3 0 4 6
+3 1 2 6
+3 1 6 5
+3 3 6 4
+3 3 5 6
+";
+
+// A run over a table file, in pieces, and a grid file, with calls that fail.
 #[derive(Clone, Copy)]
 struct Case<'a> {
     words: &'a str,
+    table: [&'a [u8]; 3],
     header: &'a str,
     samples: &'a [u8],
     shelf_fails: &'a [u64],
@@ -71,6 +128,7 @@ struct Case<'a> {
 const fn extracts<'a>(header: &'a str, samples: &'a [u8], out: &'a str) -> Case<'a> {
     Case {
         words: WORDS,
+        table: [&SQUARE, &[], &[]],
         header,
         samples,
         shelf_fails: &[],
@@ -92,6 +150,7 @@ const fn refuses<'a>(
 ) -> Case<'a> {
     Case {
         words,
+        table: [&SQUARE, &[], &[]],
         header,
         samples,
         shelf_fails: &[],
@@ -114,11 +173,13 @@ fn words_of(alloc: Global, line: &str) -> Result<Vec<String>, AllocError> {
     Ok(words)
 }
 
-fn file(alloc: Global, name: &str, head: &[u8], rest: &[u8]) -> Result<MemFile, AllocError>
+fn file(alloc: Global, name: &str, pieces: &[&[u8]]) -> Result<MemFile, AllocError>
     ensures { IfOk result (λ file. file.0 ≡ name.now) }
 {
-    let mut bytes = Vec::from_slice(alloc, head)?;
-    bytes.extend_from_slice(rest)?;
+    let mut bytes = Vec::new(alloc);
+    for piece in pieces {
+        bytes.extend_from_slice(piece)?;
+    }
     Ok(MemFile {
         name: String::from_str(alloc, name)?,
         bytes,
@@ -127,8 +188,8 @@ fn file(alloc: Global, name: &str, head: &[u8], rest: &[u8]) -> Result<MemFile, 
 
 fn shelf_of(alloc: Global, case: &Case) -> Result<MemShelf, AllocError> {
     let mut files = Vec::new(alloc);
-    files.push(file(alloc, "square.tab", &SQUARE, &[])?)?;
-    files.push(file(alloc, "first.nrrd", case.header.as_bytes(), case.samples)?)?;
+    files.push(file(alloc, "table.tab", &case.table)?)?;
+    files.push(file(alloc, "grid.nrrd", &[case.header.as_bytes(), case.samples])?)?;
     let fails = Vec::from_slice(alloc, case.shelf_fails)?;
     Ok(MemShelf::new(files, fails, case.shelf_step.max(1)))
 }
@@ -148,7 +209,7 @@ fn check(rt: &impl Abort, alloc: Global, number: usize, case: &Case) -> Result<(
 }
 
 #[test]
-fn squares_have_their_segments(rt: HostRuntime) -> Result<(), Fail> {
+fn meshes_are_placed(rt: HostRuntime) -> Result<(), Fail> {
     let cases = [
         extracts(HEADER, &[10, 0, 0, 0], FIRST),
         extracts(
@@ -176,16 +237,29 @@ fn squares_have_their_segments(rt: HostRuntime) -> Result<(), Fail> {
             "nOFF\n2\n0 0 0\n",
         ),
         Case {
-            words: "extract table=square.tab grid=first.nrrd iso=1",
+            words: "extract table=table.tab grid=grid.nrrd iso=1",
             ..extracts(
                 HEADER,
                 &[0, 3, 0, 3],
                 "nOFF\n2\n2 1 0\n0.333333 0.000000\n0.333333 1.000000\n2 1 0\n",
             )
         },
+        // the table of the simplex in each of both dimensions
+        Case {
+            table: [&TRIANGLE, &[], &[]],
+            ..extracts(
+                HEADER,
+                &[10, 0, 0, 0],
+                "nOFF\n2\n3 2 0\n0.500000 0.000000\n0.000000 0.500000\n0.500000 0.500000\n2 0 2\n2 2 1\n",
+            )
+        },
+        Case {
+            table: [&TETRAHEDRON, &[], &[]],
+            ..extracts(SCANNED, &[10, 0, 0, 0, 0, 0, 0, 0], TETRAHEDRA)
+        },
         // shorts with the high byte first
         Case {
-            words: "extract table=square.tab iso=-3 grid=first.nrrd",
+            words: "extract table=table.tab iso=-3 grid=grid.nrrd",
             ..extracts(
                 "NRRD0005\ntype: short\ndimension: 2\nsizes: 2 2\nendian: big\nencoding: raw\n\n",
                 &[0xff, 0xfb, 0, 0, 0xff, 0xfb, 0, 0],
@@ -219,21 +293,14 @@ fn refusals_put_their_line(rt: HostRuntime) -> Result<(), Fail> {
             "usage: word 4\n",
         ),
         refuses(
-            "check table=square.tab",
-            HEADER,
-            &samples,
-            Status::NotYet,
-            "not yet\n",
-        ),
-        refuses(
-            "extract table=square.tab grid=b iso=5",
+            "extract table=table.tab grid=b iso=5",
             HEADER,
             &samples,
             Status::ShelfFault(1),
             "shelf fault: 1\n",
         ),
         refuses(
-            "extract table=first.nrrd grid=b iso=5",
+            "extract table=grid.nrrd grid=b iso=5",
             HEADER,
             &samples,
             Status::TableForm(TableForm::Fault {
@@ -270,6 +337,27 @@ fn refusals_put_their_line(rt: HostRuntime) -> Result<(), Fail> {
             Status::Unfit { table: 2, grid: 3 },
             "unfit: table 2 grid 3\n",
         ),
+        Case {
+            table: [&TETRAHEDRON, &[], &[]],
+            ..refuses(
+                WORDS,
+                HEADER,
+                &samples,
+                Status::Unfit { table: 3, grid: 2 },
+                "unfit: table 3 grid 2\n",
+            )
+        },
+        // a table that is not accepted is refused whatever the grid
+        Case {
+            table: [&SQUARE[..24], &[1, 0], &SQUARE[26..]],
+            ..refuses(
+                WORDS,
+                "",
+                &[],
+                Status::TableRefused { label: 1, rule: 4 },
+                "table refused: label 1 rule 4\n",
+            )
+        },
         refuses(
             WORDS,
             "NRRD0001\ntype: uint8\ndimension: 2\nsizes: 16384 16384\nencoding: raw\n\n",
@@ -324,6 +412,60 @@ fn each_call_of_the_shelf_may_fail(rt: HostRuntime) -> Result<(), Fail> {
             ..extracts(HEADER, &[10, 0, 0, 0], FIRST)
         };
         check(&rt, rt.alloc(), calls as usize, &case)?;
+    }
+    Ok(())
+}
+
+const fn accepts<'a>(table: [&'a [u8]; 3]) -> Case<'a> {
+    Case {
+        words: "check table=table.tab",
+        table,
+        out: "accepted\n",
+        ..extracts("", &[], "")
+    }
+}
+
+#[test]
+fn tables_are_accepted_or_refused(rt: HostRuntime) -> Result<(), Fail> {
+    let cases = [
+        accepts([&SQUARE, &[], &[]]),
+        // the ambiguous square joined the other way
+        accepts([&SQUARE[..54], &[2, 0, 1, 3], &SQUARE[58..]]),
+        // the other diagonal in entry 3
+        accepts([&TETRAHEDRON[..38], &[1, 3, 2, 2, 3, 4], &TETRAHEDRON[44..]]),
+        Case {
+            out: "",
+            status: Status::TableRefused { label: 1, rule: 1 },
+            line: "table refused: label 1 rule 1\n",
+            ..accepts([&SQUARE[..20], &[0, 0, 0, 0], &SQUARE[26..]])
+        },
+        // the faces of a tuple that is not sound count at the seams
+        Case {
+            out: "",
+            status: Status::TableRefused { label: 0, rule: 6 },
+            line: "table refused: label 0 rule 6\n",
+            ..accepts([&SQUARE[..64], &[0, 0, 0, 2, 3, 2, 0, 1], &SQUARE[70..]])
+        },
+        Case {
+            out: "",
+            status: Status::TableForm(TableForm::Fault {
+                place: 111,
+                cause: TableCause::Short,
+            }),
+            line: "table form: short 111\n",
+            ..accepts([&SQUARE[..111], &[], &[]])
+        },
+        Case {
+            out_step: 1,
+            out_fails: &[3],
+            out: "acc",
+            status: Status::WriteFault(1),
+            line: "write fault: 1\n",
+            ..accepts([&SQUARE, &[], &[]])
+        },
+    ];
+    for (number, case) in cases.iter().enumerate() {
+        check(&rt, rt.alloc(), number, case)?;
     }
     Ok(())
 }

@@ -1,0 +1,60 @@
+-- Tables that the check accepts or refuses.
+use Rattle.std.proofs.Common.{◌≡◌, ℕ, ◌<◌, true, List, Option, sym, subst, lit≤}
+use Rattle.std.specs.Prelude.{Result, Ok, Err, IfOk, IfErr}
+use Rattle.iso_base.specs.Files.{Files}
+use Rattle.iso_model.specs.declared.Kind.{Kind}
+use Rattle.iso_model.specs.Acceptance.{IsAccepted, IsRefusedAt, rule_edges}
+use Rattle.iso_model.specs.Cells.{label_count}
+use Rattle.iso_model.specs.Tables.{IsTable, Table, entry_of}
+use Rattle.iso_cli.specs.declared.checked.CheckedTable.{CheckedTable}
+use Rattle.iso_cli.specs.declared.status.Status.{Status}
+use Rattle.iso_cli.specs.declared.status.Status.TheVariants as Statuses
+use Rattle.iso_cli.specs.Checked.{IsRefusalOf, checked_in}
+use Rattle.iso_cli.specs.Refusals.{FileHas, HoldTable, HoldsAccepted, IsRefusedTable, not_accepted}
+use Rattle.iso_cli.specs.Shelves.{BlamesShelf}
+use Rattle.iso_cli.specs.Statuses.{IsDecided, IsOfTable, IsShelfFault}
+use Rattle.iso_cli.proofs.Refusing.{file_map}
+
+-- each entry of an accepted table has the bipolar edges of its label and no others
+pub accepted_edges : (t : Table) (kind : Kind) (d label : ℕ) → t.kind ≡ kind → t.dimension ≡ d → IsAccepted t → label < label_count kind d
+    → rule_edges kind d label (entry_of t label) ≡ true
+accepted_edges t kind d label same_kind same_dimension accepted low =
+    let own : label < label_count t.kind t.dimension =
+    subst (λ (n : ℕ). label < label_count t.kind n) (sym same_dimension) (subst (λ (k : Kind). label < label_count k d) (sym same_kind) low) in
+    subst (λ (n : ℕ). rule_edges kind n label (entry_of t label) ≡ true) same_dimension
+    (subst (λ (k : Kind). rule_edges k t.dimension label (entry_of t label) ≡ true) same_kind (accepted label 1 own (lit≤ tt)))
+
+-- what holds where memory was refused and where the table was, holds of the error
+pub of_refusal : {T : Type 0} (P : Status → Type 0) (t : Table) (result : Result T Status) → P Statuses.Memory
+    → ((label r : ℕ) → IsRefusedAt t label r → P (Statuses.TableRefused label r)) → IfErr result (IsRefusalOf t) → IfErr result P
+of_refusal P t (Ok x) memory refused is = tt
+of_refusal P t (Err Statuses.Memory) memory refused is = memory
+of_refusal P t (Err (Statuses.TableRefused label r)) memory refused is = refused label r is
+of_refusal P t (Err _) memory refused is = absurd is
+
+-- a table that is not accepted is refused where the file holds it
+pub table_refused : {T : Type 0} (files : Option Files) (name : List ℕ) (t : Table) (result : Result T Status) → FileHas files name (λ bytes. HoldTable bytes t) → IfErr result (IsRefusalOf t)
+    → IfErr result (λ status. IsDecided status → FileHas files name (λ bytes. IsRefusedTable bytes status))
+table_refused files name t result held is =
+    of_refusal (λ status. IsDecided status → FileHas files name (λ bytes. IsRefusedTable bytes status)) t result (λ decided. absurd decided)
+    (λ label r refused decided. file_map files name (λ bytes. HoldTable bytes t) (λ bytes. IsRefusedTable bytes (Statuses.TableRefused label r)) (λ bytes hold. not_accepted t label r hold refused) held) is
+
+pub table_kinds : {T : Type 0} (t : Table) (result : Result T Status) → IfErr result (IsRefusalOf t) → IfErr result IsOfTable
+table_kinds t result is = of_refusal IsOfTable t result tt (λ label r refused. tt) is
+
+pub table_blames : {T : Type 0} (t : Table) (result : Result T Status) (before now : ℕ) → IfErr result (IsRefusalOf t) → IfErr result (λ status. BlamesShelf status before now)
+table_blames t result before now is = of_refusal (λ status. BlamesShelf status before now) t result tt (λ label r refused. tt) is
+
+pub table_missing : {T : Type 0} (t : Table) (result : Result T Status) (P : Type 0) → IfErr result (IsRefusalOf t) → IfErr result (λ status. IsShelfFault status → P)
+table_missing t result P is = of_refusal (λ status. IsShelfFault status → P) t result (λ fault. absurd fault) (λ label r refused fault. absurd fault) is
+
+-- a table that is accepted, where the file holds it
+pub table_held : (files : Option Files) (name : List ℕ) (t : Table) (result : Result CheckedTable Status) → FileHas files name (λ bytes. HoldTable bytes t)
+    → IfOk result (λ checked. checked_in checked ≡ t) → IfOk result (λ checked. IsTable (checked_in checked)) → IfOk result (λ checked. IsAccepted (checked_in checked))
+    → IfOk result (λ checked. HoldsAccepted files name (checked_in checked))
+table_held files name t (Err e) held same whole accepted = tt
+table_held files name t (Ok checked) held same whole accepted = record {
+  held = subst (λ (u : Table). FileHas files name (λ bytes. HoldTable bytes u)) (sym same) held;
+  whole = whole;
+  accepted = accepted;
+}
