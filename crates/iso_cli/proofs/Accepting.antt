@@ -15,15 +15,6 @@ use Rattle.iso_cli.specs.Shelves.{BlamesShelf}
 use Rattle.iso_cli.specs.Statuses.{IsDecided, IsOfTable, IsShelfFault}
 use Rattle.iso_cli.proofs.Refusing.{file_map}
 
--- each entry of an accepted table has the bipolar edges of its label and no others
-pub accepted_edges : (t : Table) (kind : Kind) (d label : ℕ) → t.kind ≡ kind → t.dimension ≡ d → IsAccepted t → label < label_count kind d
-    → rule_edges kind d label (entry_of t label) ≡ true
-accepted_edges t kind d label same_kind same_dimension accepted low =
-    let own : label < label_count t.kind t.dimension =
-    subst (λ (n : ℕ). label < label_count t.kind n) (sym same_dimension) (subst (λ (k : Kind). label < label_count k d) (sym same_kind) low) in
-    subst (λ (n : ℕ). rule_edges kind n label (entry_of t label) ≡ true) same_dimension
-    (subst (λ (k : Kind). rule_edges k t.dimension label (entry_of t label) ≡ true) same_kind (accepted label 1 own (lit≤ tt)))
-
 -- what holds where memory was refused and where the table was, holds of the error
 pub of_refusal : {T : Type 0} (P : Status → Type 0) (t : Table) (result : Result T Status) → P Statuses.Memory
     → ((label r : ℕ) → IsRefusedAt t label r → P (Statuses.TableRefused label r)) → IfErr result (IsRefusalOf t) → IfErr result P

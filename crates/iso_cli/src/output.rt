@@ -10,7 +10,7 @@ use crate::checked::CheckedTable;
 use crate::status::Status;
 use grid_split::Split;
 use iso_base::{Memory, Sink, put_all};
-use mesh_placing::place;
+use mesh_extract::extract;
 use nrrd_raw::Grid;
 use off_write::write_mesh;
 use std::alloc::Global;
@@ -66,7 +66,9 @@ fn put_placed<C: Split<D>, const D: usize, O: Sink>(
     ensures kinds { IsOfPutting result }
     ensures output { LeavesOutput O.faults O.bytes (λ text. text ≡ placed_text table.now grid.now iso) result out.old out.new }
 {
-    let mesh = match place::<C, D>(alloc, table.table(), grid, iso) {
+    // What an accepted table holds is known from here on.
+    let _ = table.table();
+    let mesh = match extract(alloc, table, grid, iso) {
         Ok(mesh) => mesh,
         Err(Memory) => return Status::Memory,
     };
