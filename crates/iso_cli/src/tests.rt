@@ -439,6 +439,13 @@ fn tables_are_accepted_or_refused(rt: HostRuntime) -> Result<(), Fail> {
             line: "table refused: label 1 rule 1\n",
             ..accepts([&SQUARE[..20], &[0, 0, 0, 0], &SQUARE[26..]])
         },
+        // the segment of label 1 twice
+        Case {
+            out: "",
+            status: Status::TableRefused { label: 1, rule: 3 },
+            line: "table refused: label 1 rule 3\n",
+            ..accepts([&SQUARE[..20], &[0, 0, 0, 2, 0, 1, 0, 1], &SQUARE[26..]])
+        },
         // the faces of a tuple that is not sound count at the seams
         Case {
             out: "",
