@@ -1,7 +1,8 @@
 -- The cells of mixed cubes have all bipolar edges.
-use Rattle.std.proofs.Common.{◌≡◌, ℕ, ◌+◌, ◌*◌, ◌/◌, ◌%◌, ◌<◌, ◌≤◌, Bool, true, false, None, List, length, refl, sym, ap, ◌∙◌, subst, arith, ℤ, inl, inr}
+use Rattle.std.proofs.Common.{◌≡◌, ℕ, ◌+◌, ◌*◌, ◌/◌, ◌%◌, ◌<◌, ◌≤◌, Bool, true, false, None, List, length, map, get_or, refl, sym, ap, ◌∙◌, subst, arith, ℤ, inl, inr}
 use Rattle.std.specs.Prelude.{filter, slice_index, Contains, ◌↔◌}
 use Rattle.std.proofs.Math.Nat.{mul-le-mul_right}
+use Rattle.std.proofs.lemmas.List.{length-map, get_or-map}
 use Rattle.iso_model.specs.declared.Kind.{Kind}
 use Rattle.iso_model.specs.Orders.{numbers}
 use Rattle.iso_model.specs.Cells.{HasDimension, corner_count, edge_ends}
@@ -10,19 +11,42 @@ use Rattle.iso_model.specs.Splits.{cube_count, cell_count, cells_per_cube}
 use Rattle.iso_model.specs.Values.{Grid, volume, label_of}
 use Rattle.iso_model.proofs.Deciding.{any_default, Contains-at, contained_below, below_contained}
 use Rattle.iso_model.proofs.FaceLaws.{Contains-filter}
+use Rattle.cell_lattice.specs.Dimensions.{IsDimension, in_each_dimension}
 use Rattle.split_laws.proofs.Coordinates.{cube_in}
+use Rattle.mixed_cubes.specs.declared.cubes.CubePlace.{CubePlace}
+use Rattle.mixed_cubes.specs.CubePlaces.{place_of}
 use Rattle.mixed_cubes.specs.Mixed.{is_mixed}
 use Rattle.mixed_cubes.proofs.OneSign.{has_plain_label}
 use Rattle.edge_vertex.specs.EdgeValue.{IsBipolarOf, IsBipolarEdge}
 use Rattle.edge_vertex.proofs.Added.{InCubes, none_negative, none_positive}
 use Rattle.edge_vertex.proofs.Listed.{filtered}
 
+-- a grid has few axes
+pub few_axes : (d : ℕ) → IsDimension d → d ≤ 4
+few_axes = in_each_dimension (λ n. n ≤ 4) (omega arith) (omega arith) (omega arith)
+
 -- the numbers of the mixed cubes
 abbrev pub mixed : Grid → ℤ → List ℕ
 mixed g iso = filter (is_mixed g iso) (numbers (cube_count g.sizes))
 
-pub mixed_below : (g : Grid) (iso : ℤ) (i : ℕ) → i < length (mixed g iso) → slice_index (mixed g iso) i < cube_count g.sizes
+mixed_below : (g : Grid) (iso : ℤ) (i : ℕ) → i < length (mixed g iso) → slice_index (mixed g iso) i < cube_count g.sizes
 mixed_below g iso i h = below_contained (cube_count g.sizes) (slice_index (mixed g iso) i) (Contains-filter (is_mixed g iso) (numbers (cube_count g.sizes)) (slice_index (mixed g iso) i) (Contains-at (mixed g iso) i 0 h))
+
+-- a mixed cube as the list of their places has it
+pub mixed_place : (g : Grid) (iso : ℤ) (places : List CubePlace) (i : ℕ) (d : CubePlace) → places ≡ map (place_of g.sizes) (mixed g iso) → i < length places → get_or places i d ≡ place_of g.sizes (slice_index (mixed g iso) i)
+mixed_place g iso places i d are h =
+    let inside : i < length (mixed g iso) = omega (arith, h, ap length are, length-map (mixed g iso) (place_of g.sizes)) in
+    ap (λ (xs : List CubePlace). get_or xs i d) are ∙ get_or-map (place_of g.sizes) (mixed g iso) i 0 d inside
+
+-- its number is that of a cube of the grid, and it stands where the cube of that number does
+pub mixed_place-stands : (g : Grid) (iso : ℤ) (places : List CubePlace) (i : ℕ) (d : CubePlace) → places ≡ map (place_of g.sizes) (mixed g iso) → i < length places
+    → ((get_or places i d).number < cube_count g.sizes) × (get_or places i d ≡ place_of g.sizes (get_or places i d).number)
+mixed_place-stands g iso places i d are h =
+    let inside : i < length (mixed g iso) = omega (arith, h, ap length are, length-map (mixed g iso) (place_of g.sizes)) in
+    let at : get_or places i d ≡ place_of g.sizes (slice_index (mixed g iso) i) = mixed_place g iso places i d are h in (
+      subst (λ (p : CubePlace). p.number < cube_count g.sizes) (sym at) (mixed_below g iso i inside),
+      subst (λ (p : CubePlace). p ≡ place_of g.sizes p.number) (sym at) refl,
+    )
 
 pub last_cell : (c cubes per : ℕ) → c < cubes → c * per + per ≤ cubes * per
 last_cell c cubes per h = let more : (c + 1) * per ≤ cubes * per = mul-le-mul_right per (omega (arith, h)) in omega (arith, more)

@@ -1,17 +1,17 @@
-ghost use Rattle.std.specs.Prelude.{◌≡◌, ℕ, ◌+◌, ◌*◌, ◌^◌, [], ◌<◌, ◌≤◌, ◌↔◌, None, Contains, length, OnOk, IfOk, unsigned_abs, reverse, IsSortedByKey, IsPermutation, slice_index_or};
+ghost use Rattle.std.specs.Prelude.{◌≡◌, ℕ, ℤ, ◌+◌, ◌*◌, ◌^◌, [], ◌<◌, ◌≤◌, ◌↔◌, None, Contains, length, OnOk, IfOk, unsigned_abs, reverse, IsSortedByKey, IsPermutation, slice_index, slice_index_or};
 ghost use Rattle.std.specs.Ordering.{nat_cmp};
 ghost use Rattle.std.specs.Cmp.Lexicographic.{slice_cmp};
-ghost use Rattle.iso_model.specs.Cells.{is_set as is_set_in};
 ghost use Rattle.iso_model.specs.Points.{plus};
-ghost use Rattle.iso_model.specs.Bipolar.{is_bipolar_in};
-ghost use Rattle.iso_model.specs.Splits.{cube_count, cell_count, Edge as GridEdge};
-ghost use Rattle.iso_model.specs.Values.{IsRegularGrid, volume, label_of as label_in};
+ghost use Rattle.iso_model.specs.Splits.{cell_count, Edge as GridEdge};
+ghost use Rattle.iso_model.specs.Values.{Grid as Samples, IsRegularGrid, volume};
 ghost use Rattle.cell_lattice.specs.Dimensions.{IsDimension};
+ghost use Rattle.cube_cells.specs.SignedCubes.{IsSignedCube};
 ghost use Rattle.edge_vertex.specs.EdgeValue.{edge_of, edges_of, Adds, IsBipolarOf, IsBipolarAt, IsBipolarFrom, IsBipolarEdge, order_of};
 ghost use Rattle.iso_model.specs.Bipolar.{bipolar_edges};
 
 use crate::edges::{EdgeList, EdgeSet};
-use crate::labels::{know_axes, label_of};
+use crate::labels::know_axes;
+use cube_cells::{CubeSteps, SignedCube, is_bipolar};
 use grid_split::{Complex, Edge, Split};
 use indexmap::IndexSet;
 use iso_base::Memory;
@@ -34,7 +34,7 @@ pub fn bipolar<C: Split<D>, const D: usize>(
     ensures { IfOk result (λ edges. edges ≡ bipolar_edges (volume C.KIND grid.now iso None)) }
 {
     know_axes(complex);
-    let mut edges = all_bipolar(alloc, complex, grid, iso)?;
+    let mut edges = all_bipolar::<C, D>(alloc, grid, iso)?;
     sort_edges(&mut edges)?;
     Ok(EdgeList { edges })
 }
@@ -42,20 +42,20 @@ pub fn bipolar<C: Split<D>, const D: usize>(
 // The bipolar edges of all cells, in the order in which they are found. Those of cubes that are not mixed have none.
 fn all_bipolar<C: Split<D>, const D: usize>(
     alloc: Global,
-    complex: &Complex<C, D>,
     grid: &Grid,
     iso: i64,
 ) -> Result<EdgeSet<D>, Memory>
     requires regular { IsRegularGrid grid.now }
-    requires sizes { complex.now ≡ grid.now.sizes }
-    requires axes { length complex.now ≡ D }
+    requires axes { length grid.now.sizes ≡ D }
     requires iso { unsigned_abs iso ≤ 2 ^ 40 }
     ensures { IfOk result (λ edges. (e : GridEdge) → Contains (edges_of edges.keys) e ↔ IsBipolarEdge (volume C.KIND grid.now iso None) C.EDGES (cell_count C.KIND grid.now.sizes) e) }
 {
     let cubes = mixed_cubes(alloc, grid, iso)?;
+    let steps = CubeSteps::new(grid);
     let mut edges = room_for(alloc, cubes.len())?;
-    for cube in &cubes {
-        add_cube(&mut edges, complex, *cube, grid, iso)?;
+    for place in &cubes {
+        let cube = SignedCube::read(grid, &steps, *place, iso);
+        add_cube::<C, D>(&mut edges, &cube)?;
     }
     Ok(edges)
 }
@@ -74,49 +74,29 @@ fn room_for<const D: usize>(alloc: Global, count: usize) -> Result<EdgeSet<D>, M
 // Adds the bipolar edges of the cells of a cube.
 fn add_cube<C: Split<D>, const D: usize>(
     edges: &mut EdgeSet<D>,
-    complex: &Complex<C, D>,
-    cube: u64,
-    grid: &Grid,
-    iso: i64,
+    cube: &SignedCube<D>,
 ) -> Result<(), Memory>
-    requires cube { cube < cube_count complex.now }
-    requires regular { IsRegularGrid grid.now }
-    requires sizes { complex.now ≡ grid.now.sizes }
-    requires axes { length complex.now ≡ D }
-    requires iso { unsigned_abs iso ≤ 2 ^ 40 }
-    ensures { OnOk result (Adds (IsBipolarFrom (volume C.KIND grid.now iso None) C.EDGES (cube * C.PER_CUBE) C.PER_CUBE) (edges_of edges.old.keys) (edges_of edges.new.keys)) }
+    requires few { (i : ℕ) → i < D → slice_index cube.now.place i < 2 ^ 27 }
+    ensures { (g : Samples) (iso : ℤ) (number : ℕ) → length g.sizes ≡ D → IsSignedCube g iso number cube.now → OnOk result (Adds (IsBipolarFrom (volume C.KIND g iso None) C.EDGES (number * C.PER_CUBE) C.PER_CUBE) (edges_of edges.old.keys) (edges_of edges.new.keys)) }
 {
-    let first = first_cell(complex, cube);
     for rank in 0..C::PER_CUBE {
-        let cell = first + u64::from(rank);
-        let label = label_of(complex, cell, grid, iso);
-        add_cell(edges, complex, cell, label)?;
+        let label = cube.label::<C>(rank);
+        add_cell::<C, D>(edges, cube, rank, label)?;
     }
     Ok(())
 }
 
-// The first cell of a cube.
-fn first_cell<C: Split<D>, const D: usize>(complex: &Complex<C, D>, cube: u64) -> u64
-    requires { cube < cube_count complex.now }
-    ensures first { result ≡ cube * C.PER_CUBE }
-    ensures cells { result + C.PER_CUBE ≤ cell_count C.KIND complex.now }
-    ensures few { cell_count C.KIND complex.now ≤ 2 ^ 32 }
-{
-    let _ = complex.cells();
-    cube * u64::from(C::PER_CUBE)
-}
-
-// Adds the bipolar edges of a cell with this label.
+// Adds the bipolar edges of the cell of this rank, which has this label.
 fn add_cell<C: Split<D>, const D: usize>(
     edges: &mut EdgeSet<D>,
-    complex: &Complex<C, D>,
-    cell: u64,
+    cube: &SignedCube<D>,
+    rank: u32,
     label: u32,
 ) -> Result<(), Memory>
-    requires cell { cell < cell_count C.KIND complex.now }
-    requires axes { length complex.now ≡ D }
+    requires few { (i : ℕ) → i < D → slice_index cube.now.place i < 2 ^ 27 }
+    requires rank { rank < C.PER_CUBE }
     requires label { label < 2 ^ C.CORNERS }
-    ensures { OnOk result (Adds (IsBipolarOf C.KIND complex.now cell label C.EDGES) (edges_of edges.old.keys) (edges_of edges.new.keys)) }
+    ensures { (g : Samples) (iso : ℤ) (number : ℕ) → length g.sizes ≡ D → IsSignedCube g iso number cube.now → OnOk result (Adds (IsBipolarOf C.KIND g.sizes (number * C.PER_CUBE + rank) label C.EDGES) (edges_of edges.old.keys) (edges_of edges.new.keys)) }
 {
     if label == 0 {
         return Ok(());
@@ -125,26 +105,26 @@ fn add_cell<C: Split<D>, const D: usize>(
         return Ok(());
     }
     for edge in 0..C::EDGES as u8 {
-        add_if(edges, complex, cell, label, edge)?;
+        add_if::<C, D>(edges, cube, rank, label, edge)?;
     }
     Ok(())
 }
 
-// Adds an edge of a cell with this label, where it is bipolar.
+// Adds an edge of the cell of this rank, which has this label, where the edge is bipolar.
 fn add_if<C: Split<D>, const D: usize>(
     edges: &mut EdgeSet<D>,
-    complex: &Complex<C, D>,
-    cell: u64,
+    cube: &SignedCube<D>,
+    rank: u32,
     label: u32,
     edge: u8,
 ) -> Result<(), Memory>
-    requires cell { cell < cell_count C.KIND complex.now }
-    requires axes { length complex.now ≡ D }
+    requires few { (i : ℕ) → i < D → slice_index cube.now.place i < 2 ^ 27 }
+    requires rank { rank < C.PER_CUBE }
     requires edge { edge < C.EDGES }
-    ensures { OnOk result (Adds (IsBipolarAt C.KIND complex.now cell label edge) (edges_of edges.old.keys) (edges_of edges.new.keys)) }
+    ensures { (g : Samples) (iso : ℤ) (number : ℕ) → length g.sizes ≡ D → IsSignedCube g iso number cube.now → OnOk result (Adds (IsBipolarAt C.KIND g.sizes (number * C.PER_CUBE + rank) label edge) (edges_of edges.old.keys) (edges_of edges.new.keys)) }
 {
     if is_bipolar::<C, D>(label, edge) {
-        return add(edges, complex.edge(cell, edge));
+        return add(edges, cube.edge::<C>(rank, edge));
     }
     Ok(())
 }
@@ -154,23 +134,6 @@ fn all_corners<C: Split<D>, const D: usize>() -> u32
     ensures { result + 1 ≡ 2 ^ C.CORNERS }
 {
     (1 << C::CORNERS) - 1
-}
-
-// Whether one end of the edge is positive and the other is not.
-fn is_bipolar<C: Split<D>, const D: usize>(label: u32, edge: u8) -> bool
-    requires { edge < C.EDGES }
-    ensures { result ≡ is_bipolar_in C.KIND D label edge }
-{
-    let (first, second) = C::edge_ends(edge);
-    is_set(label, first) != is_set(label, second)
-}
-
-// Whether a corner is positive.
-fn is_set(label: u32, corner: u8) -> bool
-    requires { corner < 32 }
-    ensures { result ≡ is_set_in label corner }
-{
-    (label >> corner) & 1 == 1
 }
 
 // Adds an edge, unless it is there.

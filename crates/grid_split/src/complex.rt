@@ -177,8 +177,9 @@ fn per_cube<C: Split<D>, const D: usize>() -> u64
     u64::from(C::PER_CUBE)
 }
 
-// The point at an offset in a cube.
-fn placed<const D: usize>(cube: &[u32; D], offset: &[u8; D]) -> [u32; D]
+/// The point at an offset in a cube, both in half-units from the first corner of the grid and of the cube: a cube is
+/// given by its place along each axis.
+pub fn placed<const D: usize>(cube: &[u32; D], offset: &[u8; D]) -> [u32; D]
     requires few { (i : ℕ) → i < D → slice_index cube.now i < 2 ^ 27 }
     requires small { (i : ℕ) → slice_index offset.now i ≤ 2 }
     ensures { result ≡ point D (λ i. 2 * slice_index cube.now i + slice_index offset.now i) }
@@ -190,8 +191,8 @@ fn placed<const D: usize>(cube: &[u32; D], offset: &[u8; D]) -> [u32; D]
     point
 }
 
-// The edge with these ends, the one that comes first as its low end.
-fn edge_between<const D: usize>(p: [u32; D], q: [u32; D]) -> Edge<D>
+/// The edge with these ends, given in either order: the one that comes first, last coordinate first, is `low`.
+pub fn edge_between<const D: usize>(p: [u32; D], q: [u32; D]) -> Edge<D>
     ensures low { result.low ≡ (edge_of_ends p.entry q.entry).low }
     ensures high { result.high ≡ (edge_of_ends p.entry q.entry).high }
 {

@@ -11,7 +11,7 @@ mod pyramids;
 mod simplices;
 mod split;
 
-pub use complex::Complex;
+pub use complex::{Complex, edge_between, placed};
 pub use split::{Edge, Split};
 
 #[cfg(test)]

@@ -1,18 +1,16 @@
 -- The cells of the mixed cubes have all simplices: the entries of the other cells are empty.
-use Rattle.std.proofs.Common.{◌≡◌, ℕ, ◌+◌, ◌*◌, ◌-◌, ◌/◌, ◌<◌, ◌≤◌, false, List, [], length, None, ℤ, sym, ap, ◌∙◌, arith}
-use Rattle.std.specs.Prelude.{flat_map, filter, All, Contains}
+use Rattle.std.proofs.Common.{◌≡◌, ℕ, ◌+◌, ◌*◌, ◌-◌, ◌/◌, ◌%◌, ◌<◌, ◌≤◌, false, List, [], length, None, ℤ, sym, ap, ◌∙◌, arith}
+use Rattle.std.specs.Prelude.{flat_map, filter, Contains}
 use Rattle.std.specs.List.{range_with_len}
 use Rattle.std.proofs.Math.Nat.{mul-le-mul_right}
-use Rattle.std.proofs.lemmas.Nat.{div-mul-add}
+use Rattle.std.proofs.lemmas.Nat.{div-mul-add, mod-mul-add}
 use Rattle.std.proofs.lemmas.List.FromFn.{length-range_with_len, get_or-range_with_len}
 use Rattle.iso_model.specs.declared.Kind.{Kind}
 use Rattle.iso_model.specs.Orders.{numbers}
-use Rattle.iso_model.specs.Splits.{Edge, cells_per_cube, cell_count, cube_count}
+use Rattle.iso_model.specs.Splits.{Edge, cells_per_cube, cell_count, cube_count, is_odd_cell, is_odd_rank}
 use Rattle.iso_model.specs.Values.{Grid, Volume, volume, cells, label_of}
 use Rattle.iso_model.specs.Tables.{Table, entry_of}
 use Rattle.iso_model.specs.Placed.{cell_simplices}
-use Rattle.iso_model.proofs.Deciding.{All-from_each, below_contained}
-use Rattle.iso_model.proofs.FaceLaws.{Contains-filter}
 use Rattle.mixed_cubes.specs.Mixed.{is_mixed}
 use Rattle.mixed_cubes.proofs.OneSign.{has_plain_label}
 use Rattle.mesh_placing.specs.Placing.{FitsGrid, cube_cells, placed_tuples}
@@ -44,11 +42,12 @@ cube_inside kind sizes cube h =
     let whole : (cube + 1) * m ≤ cube_count sizes * m = mul-le-mul_right m (omega (arith, h)) in
     omega (arith, whole)
 
--- mixed cubes are cubes of the grid
-pub mixed_below : (g : Grid) (iso : ℤ) → All (λ c. c < cube_count g.sizes) (filter (is_mixed g iso) (numbers (cube_count g.sizes)))
-mixed_below g iso =
-    All-from_each (λ c. c < cube_count g.sizes) (filter (is_mixed g iso) (numbers (cube_count g.sizes))) (λ c k.
-    below_contained (cube_count g.sizes) c (Contains-filter (is_mixed g iso) (numbers (cube_count g.sizes)) c k))
+-- the cell of this rank in a cube has the parity of the rank
+pub odd_in_cube : (kind : Kind) (d : ℕ) (sizes : List ℕ) (number per rank : ℕ) → length sizes ≡ d → per ≡ cells_per_cube kind d → rank < per → is_odd_cell kind sizes (number * per + rank) ≡ is_odd_rank kind d rank
+odd_in_cube kind d sizes number per rank axes counted h =
+    let here : per ≡ cells_per_cube kind (length sizes) = counted ∙ ap (cells_per_cube kind) (sym axes) in
+    let rank_is : (number * per + rank) % cells_per_cube kind (length sizes) ≡ rank = ap (λ (n : ℕ). (number * per + rank) % n) (sym here) ∙ mod-mul-add number per rank h in
+    ap (is_odd_rank kind (length sizes)) rank_is ∙ ap (λ (n : ℕ). is_odd_rank kind n rank) axes
 
 -- a cell of a cube that is not mixed has no simplices
 plain_cell : (kind : Kind) (g : Grid) (iso : ℤ) (t : Table) (edges : List Edge) (cell : ℕ) → FitsGrid kind g t → is_mixed g iso (cell / cells_per_cube kind (length g.sizes)) ≡ false → cell_simplices (volume kind g iso None) t edges cell ≡ []

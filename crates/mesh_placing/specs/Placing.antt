@@ -1,5 +1,5 @@
 -- What is made of each bipolar edge and of each cell: a vertex, and the placed tuples of an entry.
-use Rattle.std.specs.Prelude.{◌≡◌, ℕ, ◌*◌, ◌<◌, true, List, length, map, slice_index, ℤ}
+use Rattle.std.specs.Prelude.{◌≡◌, ℕ, ◌+◌, ◌*◌, ◌<◌, true, List, length, map, slice_index, ℤ}
 use Rattle.std.specs.List.{range_with_len}
 use Rattle.iso_model.specs.declared.Kind.{Kind}
 use Rattle.iso_model.specs.Cells.{edge_count, label_count}
@@ -10,6 +10,8 @@ use Rattle.iso_model.specs.Crossing.{crossing}
 use Rattle.iso_model.specs.Tables.{Table, IsTable, entry_of}
 use Rattle.iso_model.specs.Acceptance.{rule_edges}
 use Rattle.iso_model.specs.Placed.{placed_tuple}
+use Rattle.cube_cells.specs.declared.cubes.SignedCube.{SignedCube}
+use Rattle.cube_cells.specs.SignedCubes.{IsSignedCube}
 use Rattle.edge_vertex.specs.Ends.{AreNear}
 
 -- a table fits a grid: it is one of cells of this kind in the dimension of the grid, and each entry has the bipolar edges of its label and no others
@@ -34,6 +36,15 @@ vertex_on g iso e = crossing e (value_at g.sizes g.samples e.low) (value_at g.si
 abbrev pub ListsEdges : Kind → ℕ → List ℕ → List Edge → ℕ → ℕ → Type 0
 ListsEdges kind d sizes edges cell label =
     (e : ℕ) → e < edge_count kind d → is_bipolar_in kind d label e ≡ true → place_in edges (edge kind sizes cell e) < length edges
+
+-- a cube was read in some grid, and the edges of its cell of this rank that are bipolar in the label stand in the list; each cube has this many cells
+pub record HasListedEdges {D : ℕ} (kind : Kind) (per : ℕ) (edges : List Edge) (cube : SignedCube D) (rank label : ℕ) : Type 0 where
+  pub grid : Grid
+  pub iso : ℤ
+  pub number : ℕ
+  pub axes : length grid.sizes ≡ D
+  pub was_read : IsSignedCube grid iso number cube
+  pub listed : ListsEdges kind D grid.sizes edges (number * per + rank) label
 
 -- the places in the list of those edges of a cell that are bipolar in the label, among those whose numbers are below n
 abbrev pub ArePlaces : Kind → ℕ → List ℕ → List Edge → ℕ → ℕ → ℕ → List ℕ → Type 0

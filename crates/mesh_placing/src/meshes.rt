@@ -42,7 +42,7 @@ pub fn place<C: Split<D>, const D: usize>(
     let complex = complex_of::<C, D>(grid);
     let edges = bipolar(alloc, &complex, grid, iso)?;
     let vertices = all_vertices(alloc, grid, &edges, iso)?;
-    let simplices = all_simplices(alloc, &complex, table, grid, &edges, iso)?;
+    let simplices = all_simplices::<C, D>(alloc, table, grid, &edges, iso)?;
     Ok(Mesh {
         vertices,
         simplices,

@@ -1,31 +1,33 @@
-ghost use Rattle.std.specs.Prelude.{◌≡◌, ◌<◌, length};
-ghost use Rattle.iso_model.specs.Cells.{is_set as is_set_in};
-ghost use Rattle.iso_model.specs.Splits.{cell_count};
-ghost use Rattle.iso_model.specs.Bipolar.{is_bipolar_in, place_in};
+ghost use Rattle.std.specs.Prelude.{◌≡◌, ℕ, ℤ, ◌+◌, ◌*◌, ◌^◌, ◌<◌, length, slice_index};
+ghost use Rattle.iso_model.specs.Values.{Grid as Samples};
+ghost use Rattle.iso_model.specs.Bipolar.{place_in};
+ghost use Rattle.cube_cells.specs.SignedCubes.{IsSignedCube};
 ghost use Rattle.edge_vertex.specs.EdgeValue.{edge_of};
-ghost use Rattle.mesh_placing.specs.Placing.{ListsEdges, ArePlaces};
+ghost use Rattle.mesh_placing.specs.Placing.{HasListedEdges, ArePlaces};
 
+use cube_cells::{SignedCube, is_bipolar};
 use edge_vertex::EdgeList;
-use grid_split::{Complex, Edge, Split};
+use grid_split::{Edge, Split};
 
 // No cell has more edges: the cube of four dimensions has as many.
 pub const MOST_EDGES: usize = 32;
 
-// The places of the edges of a cell that are bipolar in its label, by the numbers of the edges.
+// The places of the edges that are bipolar in the label of the cell of this rank, by the numbers of the edges.
 pub fn cell_places<C: Split<D>, const D: usize>(
-    complex: &Complex<C, D>,
     edges: &EdgeList<D>,
-    cell: u64,
+    cube: &SignedCube<D>,
+    rank: u32,
     label: u32,
 ) -> [u32; MOST_EDGES]
-    requires cell { cell < cell_count C.KIND complex.now }
-    requires listed { ListsEdges C.KIND D complex.now edges.now cell label }
-    ensures { ArePlaces C.KIND D complex.now edges.now cell label C.EDGES result }
+    requires few { (i : ℕ) → i < D → slice_index cube.now.place i < 2 ^ 27 }
+    requires rank { rank < C.PER_CUBE }
+    requires listed { HasListedEdges C.KIND C.PER_CUBE edges.now cube.now rank label }
+    ensures { (g : Samples) (iso : ℤ) (number : ℕ) → length g.sizes ≡ D → IsSignedCube g iso number cube.now → ArePlaces C.KIND D g.sizes edges.now (number * C.PER_CUBE + rank) label C.EDGES result }
 {
     let mut places = [0; MOST_EDGES];
     for edge in 0..C::EDGES as u8 {
         if is_bipolar::<C, D>(label, edge) {
-            places[edge as usize] = place_of(edges, &complex.edge(cell, edge));
+            places[edge as usize] = place_of(edges, &cube.edge::<C>(rank, edge));
         }
     }
     places
@@ -40,21 +42,4 @@ fn place_of<const D: usize>(edges: &EdgeList<D>, edge: &Edge<D>) -> u32
         Some(place) => place,
         None => unreachable!(),
     }
-}
-
-// Whether one end of the edge is positive and the other is not.
-fn is_bipolar<C: Split<D>, const D: usize>(label: u32, edge: u8) -> bool
-    requires { edge < C.EDGES }
-    ensures { result ≡ is_bipolar_in C.KIND D label edge }
-{
-    let (first, second) = C::edge_ends(edge);
-    is_set(label, first) != is_set(label, second)
-}
-
-// Whether a corner is positive.
-fn is_set(label: u32, corner: u8) -> bool
-    requires { corner < 32 }
-    ensures { result ≡ is_set_in label corner }
-{
-    (label >> corner) & 1 == 1
 }

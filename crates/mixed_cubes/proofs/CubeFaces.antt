@@ -30,7 +30,7 @@ number_of_sum (n ∷ sizes) f g a =
     ∙ add_axis (f a) (g a) n (sample_number sizes (map f (range_with_len (a + 1) (length sizes)))) (sample_number sizes (map g (range_with_len (a + 1) (length sizes))))
 
 -- a place by its coordinates
-by_coordinates : (y : List ℕ) (d : ℕ) → length y ≡ d → point d (λ i. slice_index y i) ≡ y
+pub by_coordinates : (y : List ℕ) (d : ℕ) → length y ≡ d → point d (λ i. slice_index y i) ≡ y
 by_coordinates y d long = lists_same (point d (λ i. slice_index y i)) y (length-point d (λ i. slice_index y i) ∙ sym long) (λ i h. coordinate d (λ i. slice_index y i) i (omega (arith, h, length-point d (λ i. slice_index y i))))
 
 -- the number of the sample at a corner of the cube at y
@@ -91,7 +91,7 @@ any_pairs p F a (suc m) =
     ∙ ap (λ (b : Bool). p (F (2 * a)) || (p (F (2 * a + 1)) || b)) (any_pairs p F (a + 1) m)
     ∙ shuffle (p (F (2 * a))) (p (F (2 * a + 1))) (list_any p (map (λ k. F (2 * k)) (range_with_len (a + 1) m))) (list_any p (map (λ k. F (2 * k + 1)) (range_with_len (a + 1) m)))
 
-map_twice : (F G : ℕ → ℤ) (h : ℕ → ℕ) → ((k : ℕ) → F k ≡ G (h k)) → (xs : List ℕ) → map F xs ≡ map G (map h xs)
+pub map_twice : (F G : ℕ → ℤ) (h : ℕ → ℕ) → ((k : ℕ) → F k ≡ G (h k)) → (xs : List ℕ) → map F xs ≡ map G (map h xs)
 map_twice F G h same [] = refl
 map_twice F G h same (x ∷ xs) = rw (same x, map_twice F G h same xs) refl
 

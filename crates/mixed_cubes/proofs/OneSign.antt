@@ -49,7 +49,7 @@ one_sign iso xs h = go (list_any (λ s. int_le iso s) xs) refl (list_any (λ s. 
 
 -- ---- values
 
-eighths : (iso s : ℤ) (b : Bool) → int_le iso s ≡ b → int_le (pos 8 *ℤ iso) (pos 8 *ℤ s) ≡ b
+pub eighths : (iso s : ℤ) (b : Bool) → int_le iso s ≡ b → int_le (pos 8 *ℤ iso) (pos 8 *ℤ s) ≡ b
 eighths iso s true h = grind (arith, ints)
 eighths iso s false h = grind (arith, ints)
 
@@ -102,35 +102,37 @@ even_all (c ∷ p) h =
     let rest : list_all (λ c. c % 2 == 0) p ≡ true = even_all p (λ i k. h (suc i) (omega (arith, k))) in
     rw (first, rest) refl
 
-abbrev halves : List ℕ → List ℕ
+abbrev pub halves : List ℕ → List ℕ
 halves p = map (λ c. c / 2) p
 
-even_value : (sizes : List ℕ) (samples : List ℤ) (p : List ℕ) → ((i : ℕ) → i < length p → slice_index p i % 2 ≡ 0) → value_at sizes samples p ≡ pos 8 *ℤ sample_at sizes samples (halves p)
+pub even_value : (sizes : List ℕ) (samples : List ℤ) (p : List ℕ) → ((i : ℕ) → i < length p → slice_index p i % 2 ≡ 0) → value_at sizes samples p ≡ pos 8 *ℤ sample_at sizes samples (halves p)
 unfolding value_at
 even_value sizes samples p even = rw (even_all p even) refl
 
-odd_value : (sizes : List ℕ) (samples : List ℤ) (p : List ℕ) → 0 < length p → slice_index p 0 % 2 ≡ 1 → value_at sizes samples p ≡ total (cube_samples sizes samples (halves p))
+pub odd_value : (sizes : List ℕ) (samples : List ℤ) (p : List ℕ) → 0 < length p → slice_index p 0 % 2 ≡ 1 → value_at sizes samples p ≡ total (cube_samples sizes samples (halves p))
 unfolding value_at
 odd_value sizes samples p some odd =
     let not_even : list_all (λ c. c % 2 == 0) p ≡ false = list_all_at (λ c. c % 2 == 0) p 0 0 some (rw odd refl) in
     rw not_even refl
 
-halves_are : (d : ℕ) (f g : ℕ → ℕ) → ((i : ℕ) → i < d → f i / 2 ≡ g i) → halves (point d f) ≡ point d g
+pub halves_are : (d : ℕ) (f g : ℕ → ℕ) → ((i : ℕ) → i < d → f i / 2 ≡ g i) → halves (point d f) ≡ point d g
 halves_are d f g same =
     lists_same (halves (point d f)) (point d g) (length-map (point d f) (λ c. c / 2) ∙ length-point d f ∙ sym (length-point d g)) (λ i h.
     let inside : i < d = omega (arith, h, length-map (point d f) (λ c. c / 2), length-point d f) in
     get_or-map (λ c. c / 2) (point d f) i 0 0 (omega (arith, inside, length-point d f)) ∙ ap (λ (c : ℕ). c / 2) (coordinate d f i inside) ∙ same i inside ∙ sym (coordinate d g i inside))
 
--- a number whose bits are these
-with_bits : (d : ℕ) (o : ℕ → ℕ) → ((i : ℕ) → i < d → (o i % 2 ≡ 0) × (o i ≤ 2)) → (m : ℕ) × (m < 2 ^ d) × ((i : ℕ) → i < d → o i ≡ 2 * bit_at m i)
-with_bits d o small =
-    (powers_below (λ i. o i == 2) d, powers_few (λ i. o i == 2) d, λ i h. bit_of (o i) (bit_at (powers_below (λ i. o i == 2) d) i) (small i h).0 (small i h).1 (powers_bits (λ i. o i == 2) d i h))
+-- half of coordinates that are 0 or 2 are the bits of a number
+pub offset_bits : (d : ℕ) (o : ℕ → ℕ) → ((i : ℕ) → i < d → (o i % 2 ≡ 0) × (o i ≤ 2)) → (i : ℕ) → i < d → o i ≡ 2 * bit_at (powers_below (λ j. o j == 2) d) i
+offset_bits d o small i h = bit_of (o i) (bit_at (powers_below (λ j. o j == 2) d) i) (small i h).0 (small i h).1 (powers_bits (λ j. o j == 2) d i h)
   where
     bit_of : (n bit : ℕ) → n % 2 ≡ 0 → n ≤ 2 → bit ≡ (if n == 2 then 1 else 0) → n ≡ 2 * bit
     bit_of zero bit even most is = omega (arith, is)
     bit_of (suc zero) bit even most is = absurd (omega (arith, even))
     bit_of (suc (suc zero)) bit even most is = omega (arith, is)
     bit_of (suc (suc (suc n))) bit even most is = absurd (omega (arith, most))
+
+with_bits : (d : ℕ) (o : ℕ → ℕ) → ((i : ℕ) → i < d → (o i % 2 ≡ 0) × (o i ≤ 2)) → (m : ℕ) × (m < 2 ^ d) × ((i : ℕ) → i < d → o i ≡ 2 * bit_at m i)
+with_bits d o small = (powers_below (λ i. o i == 2) d, powers_few (λ i. o i == 2) d, offset_bits d o small)
 
 -- a corner that is a corner of the cube
 at_corner : (iso : ℤ) (b : Bool) (sizes : List ℕ) (samples : List ℤ) (x o : List ℕ) → AllOfSign iso b (cube_samples sizes samples x) → ((i : ℕ) → i < length sizes → (slice_index o i % 2 ≡ 0) × (slice_index o i ≤ 2)) →

@@ -45,11 +45,11 @@ powers_few F (suc n) =
     bounded true s e t p = omega (arith, e, t, p)
     bounded false s e t p = omega (arith, e, t, p)
 
-as_product : (b : Bool) (n s : ℕ) → s + (if b then 2 ^ n else 0) ≡ (if b then 1 else 0) * 2 ^ n + s
+pub as_product : (b : Bool) (n s : ℕ) → s + (if b then 2 ^ n else 0) ≡ (if b then 1 else 0) * 2 ^ n + s
 as_product true n s = omega arith
 as_product false n s = omega arith
 
-one_bit : (b : Bool) → bit_at (if b then 1 else 0) 0 ≡ (if b then 1 else 0)
+pub one_bit : (b : Bool) → bit_at (if b then 1 else 0) 0 ≡ (if b then 1 else 0)
 one_bit true = refl
 one_bit false = refl
 

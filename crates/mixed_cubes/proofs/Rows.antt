@@ -1,7 +1,8 @@
 -- The mixed cubes of a row, one cube at a time.
-use Rattle.std.proofs.Common.{◌≡◌, ℕ, zero, suc, ◌+◌, Bool, not, List, [], ◌∷◌, ◌++◌, refl, sym, ap, ◌∙◌, arith, append_assoc, ℤ, int_le}
-use Rattle.std.specs.Prelude.{filter, ◌&&◌, ◌||◌, if◌then◌else◌}
+use Rattle.std.proofs.Common.{◌≡◌, ℕ, zero, suc, ◌+◌, Bool, true, false, not, List, [], ◌∷◌, ◌++◌, refl, sym, ap, ◌∙◌, arith, append_assoc, ℤ, int_le}
+use Rattle.std.specs.Prelude.{map, filter, ◌&&◌, ◌||◌, if◌then◌else◌}
 use Rattle.std.specs.List.{range_with_len, list_any}
+use Rattle.std.proofs.lemmas.List.{map-append}
 use Rattle.std.proofs.lemmas.List.Elements.{filter-append}
 use Rattle.std.proofs.lemmas.List.Folds.{list_any-append}
 use Rattle.mixed_cubes.specs.Faces.{face_samples, is_mixed_from}
@@ -18,14 +19,19 @@ range_joined a (suc m) n =
     ap (range_with_len a) whole ∙ ap (λ (xs : List ℕ). a ∷ xs) (range_joined (a + 1) m n ∙ ap (λ (k : ℕ). range_with_len (a + 1) m ++ range_with_len k n) next)
 
 -- a row so far, with one cube more
-pub one_more : (P : ℕ → Bool) (old items new : List ℕ) (a n : ℕ) (b : Bool) → items ≡ old ++ filter P (range_with_len a n) → b ≡ P (a + n) → new ≡ items ++ (if b then (a + n) ∷ [] else []) → new ≡ old ++ filter P (range_with_len a (n + 1))
-one_more P old items new a n b before test after =
-    let last : filter P ((a + n) ∷ []) ≡ (if b then (a + n) ∷ [] else []) = ap (λ (t : Bool). if t then (a + n) ∷ [] else []) (sym test) in
-    let whole : filter P (range_with_len a (n + 1)) ≡ filter P (range_with_len a n) ++ filter P ((a + n) ∷ []) =
-    ap (filter P) (range_joined a n 1) ∙ filter-append P (range_with_len a n) ((a + n) ∷ []) in
-    let grouped : (old ++ filter P (range_with_len a n)) ++ (if b then (a + n) ∷ [] else []) ≡ old ++ (filter P (range_with_len a n) ++ (if b then (a + n) ∷ [] else [])) = rw append_assoc refl in
-    after ∙ ap (λ (xs : List ℕ). xs ++ (if b then (a + n) ∷ [] else [])) before
-    ∙ grouped ∙ ap (λ (xs : List ℕ). old ++ (filter P (range_with_len a n) ++ xs)) (sym last) ∙ ap (λ (xs : List ℕ). old ++ xs) (sym whole)
+pub one_more : {X : Type 0} (f : ℕ → X) (P : ℕ → Bool) (old items new : List X) (x : X) (a n : ℕ) (b : Bool) → items ≡ old ++ map f (filter P (range_with_len a n)) → b ≡ P (a + n) → x ≡ f (a + n) → new ≡ items ++ (if b then x ∷ [] else []) →
+    new ≡ old ++ map f (filter P (range_with_len a (n + 1)))
+one_more {X} f P old items new x a n b before test at after =
+    let last : map f (filter P ((a + n) ∷ [])) ≡ (if b then x ∷ [] else []) = rw (sym test) (chosen b) in
+    let whole : map f (filter P (range_with_len a (n + 1))) ≡ map f (filter P (range_with_len a n)) ++ map f (filter P ((a + n) ∷ [])) =
+    ap (λ (ns : List ℕ). map f (filter P ns)) (range_joined a n 1) ∙ ap (map f) (filter-append P (range_with_len a n) ((a + n) ∷ [])) ∙ map-append f (filter P (range_with_len a n)) (filter P ((a + n) ∷ [])) in
+    let grouped : (old ++ map f (filter P (range_with_len a n))) ++ (if b then x ∷ [] else []) ≡ old ++ (map f (filter P (range_with_len a n)) ++ (if b then x ∷ [] else [])) = rw append_assoc refl in
+    after ∙ ap (λ (xs : List X). xs ++ (if b then x ∷ [] else [])) before
+    ∙ grouped ∙ ap (λ (xs : List X). old ++ (map f (filter P (range_with_len a n)) ++ xs)) (sym last) ∙ ap (λ (xs : List X). old ++ xs) (sym whole)
+  where
+    chosen : (t : Bool) → map f (if t then (a + n) ∷ [] else []) ≡ (if t then x ∷ [] else [])
+    chosen true = ap (λ (y : X). y ∷ []) (sym at)
+    chosen false = refl
 
 -- the signs of the two faces of a cube tell whether it is mixed
 pub by_signs : (iso : ℤ) (samples : List ℤ) (steps : List ℕ) (first next : ℕ) (near_above near_below far_above far_below mixed : Bool) → next ≡ first + 1

@@ -1,2 +1,3 @@
+pub mod CubePlaces
 pub mod Faces
 pub mod Mixed

@@ -1,11 +1,12 @@
 //! The mixed cubes, row by row.
 
-ghost use Rattle.std.specs.Prelude.{◌≡◌, ℕ, ◌+◌, ◌-◌, ◌*◌, ◌^◌, [], ◌∷◌, ◌++◌, ◌<◌, ◌≤◌, length, filter, slice_index, unsigned_abs, All, IfOk, OnOk, if◌then◌else◌};
+ghost use Rattle.std.specs.Prelude.{◌≡◌, ℕ, ◌+◌, ◌-◌, ◌*◌, ◌^◌, [], ◌∷◌, ◌++◌, ◌<◌, ◌≤◌, length, map, filter, slice_index, unsigned_abs, All, IfOk, OnOk, if◌then◌else◌};
 ghost use Rattle.std.specs.List.{range_with_len};
 ghost use Rattle.iso_model.specs.Orders.{numbers};
 ghost use Rattle.iso_model.specs.Splits.{cube_count as count_of};
 ghost use Rattle.iso_model.specs.Values.{IsRegularGrid, product};
 ghost use Rattle.mixed_cubes.specs.Mixed.{is_mixed};
+ghost use Rattle.mixed_cubes.specs.CubePlaces.{place_of, place_in_row};
 ghost use Rattle.mixed_cubes.specs.Faces.{is_mixed_from, corner_number as corner_number_of};
 
 use crate::faces::{are_mixed, face_signs};
@@ -14,12 +15,19 @@ use iso_base::Memory;
 use nrrd_raw::Grid;
 use std::alloc::Global;
 
-/// The numbers of the cubes of a grid that have a corner at or above the isovalue and one below it, ascending. The
-/// isovalue lies from -2^40 to 2^40.
-pub fn mixed_cubes(alloc: Global, grid: &Grid, iso: i64) -> Result<Vec<u64>, Memory>
+/// Where a cube of a grid is: its number, and the number of the sample at its first corner.
+#[derive(Clone, Copy, Debug, PartialEq, Eq)]
+pub struct CubePlace {
+    pub number: u32,
+    pub sample: u32,
+}
+
+/// The cubes of a grid that have a corner at or above the isovalue and one below it, in ascending order of their
+/// numbers. The isovalue lies from -2^40 to 2^40.
+pub fn mixed_cubes(alloc: Global, grid: &Grid, iso: i64) -> Result<Vec<CubePlace>, Memory>
     requires regular { IsRegularGrid grid.now }
     requires iso { unsigned_abs iso ≤ 2 ^ 40 }
-    ensures { IfOk result (λ cubes. cubes.items ≡ filter (is_mixed grid.now iso) (numbers (count_of grid.now.sizes))) }
+    ensures { IfOk result (λ cubes. cubes.items ≡ map (place_of grid.now.sizes) (filter (is_mixed grid.now iso) (numbers (count_of grid.now.sizes)))) }
 {
     let others = &grid.sizes[1..grid.dims as usize];
     mixed_rows(alloc, grid.sizes[0], others, grid.samples.as_slice(), iso)
@@ -32,12 +40,12 @@ fn mixed_rows(
     others: &[u64],
     samples: &[i64],
     iso: i64,
-) -> Result<Vec<u64>, Memory>
+) -> Result<Vec<CubePlace>, Memory>
     requires axes { length others.now ≤ 3 }
     requires sized { All (λ n. 1 ≤ n) (size ∷ others.now) }
     requires few { product (size ∷ others.now) ≤ 2 ^ 27 }
     requires there { length samples.now ≡ product (size ∷ others.now) }
-    ensures { IfOk result (λ cubes. cubes.items ≡ filter (is_mixed (record { sizes = size ∷ others.now; samples = samples.now }) iso) (numbers (count_of (size ∷ others.now)))) }
+    ensures { IfOk result (λ cubes. cubes.items ≡ map (place_of (size ∷ others.now)) (filter (is_mixed (record { sizes = size ∷ others.now; samples = samples.now }) iso) (numbers (count_of (size ∷ others.now))))) }
 {
     let mut cubes = Vec::new(alloc);
     let span = size - 1;
@@ -67,7 +75,7 @@ fn face_corners(size: u64, others: &[u64]) -> [u64; 8]
 
 // Adds the mixed cubes of a row, whose first cube has the number `number` and whose first sample has the number `first`.
 fn add_row(
-    cubes: &mut Vec<u64>,
+    cubes: &mut Vec<CubePlace>,
     samples: &[i64],
     steps: &[u64],
     iso: i64,
@@ -79,19 +87,23 @@ fn add_row(
     requires inside { (k : ℕ) → k < length steps.now → first + span + slice_index steps.now k < length samples.now }
     requires few { length samples.now ≤ 2 ^ 27 }
     requires numbers { number + span ≤ 2 ^ 27 }
-    ensures { OnOk result (cubes.new.items ≡ cubes.old.items ++ filter (λ c. is_mixed_from iso samples.now steps.now (first + (c - number))) (range_with_len number span)) }
+    ensures { OnOk result (cubes.new.items ≡ cubes.old.items ++ map (place_in_row first number) (filter (λ c. is_mixed_from iso samples.now steps.now (first + (c - number))) (range_with_len number span))) }
 {
     let mut near = face_signs(samples, steps, first, iso);
     for place in 0..span {
         let far = face_signs(samples, steps, first + place + 1, iso);
-        push_if(cubes, number + place, are_mixed(near, far))?;
+        let cube = CubePlace {
+            number: (number + place) as u32,
+            sample: (first + place) as u32,
+        };
+        push_if(cubes, cube, are_mixed(near, far))?;
         near = far;
     }
     Ok(())
 }
 
 // Adds a cube where the test holds.
-fn push_if(cubes: &mut Vec<u64>, cube: u64, test: bool) -> Result<(), Memory>
+fn push_if(cubes: &mut Vec<CubePlace>, cube: CubePlace, test: bool) -> Result<(), Memory>
     ensures { OnOk result (cubes.new.items ≡ cubes.old.items ++ (if test then cube ∷ [] else [])) }
 {
     if !test {

@@ -35,8 +35,9 @@ pub(crate) fn first_sample(sizes: &[u64], cube: u64) -> u64
     }
 }
 
-// How far the sample at a corner of a cube is from the cube's first: bit i of the corner is its place in axis i.
-pub(crate) fn corner_number(sizes: &[u64], corner: u64) -> u64
+/// How far the sample at a corner of a cube is from the cube's first, in samples, in a grid of at most four axes and 2^27
+/// samples: bit i of the corner is its side in axis i, and axis 0 is the fastest.
+pub fn corner_number(sizes: &[u64], corner: u64) -> u64
     requires sized { All (λ n. 1 ≤ n) sizes.now }
     requires few { product sizes.now ≤ 2 ^ 27 }
     requires axes { length sizes.now ≤ 4 }

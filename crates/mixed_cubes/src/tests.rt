@@ -2,7 +2,7 @@
 
 ghost use Rattle.std.specs.Prelude.{None};
 
-use crate::mixed_cubes;
+use crate::{CubePlace, mixed_cubes};
 use iso_base::{Failed, Shelf};
 use nrrd_raw::read_grid;
 use std::test::Fail;
@@ -40,15 +40,15 @@ impl Shelf for OneFile<'_> {
 
 #[test]
 fn a_cube_is_mixed_where_its_samples_differ_in_sign(rt: HostRuntime) -> Result<(), Fail> {
-    let cases: [(&str, &[u64]); 6] = [
-        ("dimension: 2\nsizes: 3 2\n\nazzazz", &[0]),
-        ("dimension: 2\nsizes: 3 3\n\naaaaaaaaz", &[3]),
+    let cases: [(&str, &[(u32, u32)]); 6] = [
+        ("dimension: 2\nsizes: 3 2\n\nazzazz", &[(0, 0)]),
+        ("dimension: 2\nsizes: 3 3\n\naaaaaaaaz", &[(3, 4)]),
         ("dimension: 2\nsizes: 3 2\n\nmmmmmm", &[]),
-        ("dimension: 2\nsizes: 3 2\n\nlmmmmm", &[0]),
-        ("dimension: 3\nsizes: 2 2 3\n\naaaaaaaaaaaz", &[1]),
+        ("dimension: 2\nsizes: 3 2\n\nlmmmmm", &[(0, 0)]),
+        ("dimension: 3\nsizes: 2 2 3\n\naaaaaaaaaaaz", &[(1, 4)]),
         (
             "dimension: 4\nsizes: 3 2 2 2\n\naazaazaazaazaazaazaazaaz",
-            &[1],
+            &[(1, 1)],
         ),
     ];
     for (lines, want) in cases {
@@ -60,7 +60,14 @@ fn a_cube_is_mixed_where_its_samples_differ_in_sign(rt: HostRuntime) -> Result<(
             },
         )?;
         let cubes = mixed_cubes(rt.alloc(), &grid, 109)?;
-        assert_eq!(rt; cubes.as_slice(), want, "{lines}");
+        assert_eq!(rt; cubes.len(), want.len(), "{lines}");
+        for (cube, (number, sample)) in cubes.iter().zip(want) {
+            let place = CubePlace {
+                number: *number,
+                sample: *sample,
+            };
+            assert_eq!(rt; *cube, place, "{lines}");
+        }
     }
     Ok(())
 }

@@ -1,25 +1,19 @@
-use Rattle.std.proofs.Common.{◌≡◌, ℕ, ◌+◌, List, None, ℤ, w64, to_z, of_z, subst, arith}
-use Rattle.std.proofs.lemmas.Int.{to_z-of_z}
-use Rattle.iso_model.specs.Values.{Volume, volume}
-use Rattle.edge_vertex.specs.EdgeValue.{edges_of, Adds, IsBipolarOf, IsBipolarFrom}
-use Rattle.edge_vertex.proofs.Added.{next_rank}
+use Rattle.std.proofs.Common.{◌≡◌, ℕ, ◌+◌, ◌*◌, None, refl, subst, arith}
+use Rattle.iso_model.specs.Values.{volume}
+use Rattle.edge_vertex.specs.EdgeValue.{edges_of, Adds, IsBipolarFrom}
+use Rattle.edge_vertex.proofs.Added.{no_ranks, next_rank}
 use Rattle.edge_vertex.proofs.found.add_cube.Goals as goal
 
+pub loop-rank-init : goal.loop-rank-init
+loop-rank-init g c = λ s iso number axes is.
+    no_ranks (volume g.C.Cell.KIND s iso None) g.C.Cell.EDGES (number * g.C.Split.PER_CUBE) (edges_of c.args.edges.now.keys)
+
 pub loop-rank-preserved : goal.loop-rank-preserved
-loop-rank-preserved g c =
-    let v : Volume = volume g.C.Cell.KIND c.args.grid.now (to_z w64 (of_z w64 c.args.iso)) None in
-    let cell : ℕ = c.first_cell-first.result + c.from.result in
-    let at : cell ≡ c.first_cell-first.result + c.loop-rank.rank = omega (arith, c.from.ensures) in
-    let in_grid : Adds (IsBipolarOf g.C.Cell.KIND c.args.grid.now.sizes cell c.label_of-label.result g.C.Cell.EDGES) (edges_of c.loop-rank.edges.keys) (edges_of c.add_cell.new.edges.keys) =
-    subst (λ (sizes : List ℕ). Adds (IsBipolarOf g.C.Cell.KIND sizes cell c.label_of-label.result g.C.Cell.EDGES) (edges_of c.loop-rank.edges.keys) (edges_of c.add_cell.new.edges.keys)) c.requires.sizes c.in_ok-add_cell.ensures in
-    next_rank v g.C.Cell.EDGES c.first_cell-first.result c.loop-rank.rank cell c.label_of-label.result (edges_of c.args.edges.now.keys) (edges_of c.loop-rank.edges.keys) (edges_of c.add_cell.new.edges.keys) at c.label_of-label.ensures.label c.loop-rank.invariant in_grid
+loop-rank-preserved g c = λ s iso number axes is.
+    next_rank (volume g.C.Cell.KIND s iso None) g.C.Cell.EDGES (number * g.C.Split.PER_CUBE) c.loop-rank.rank (number * g.C.Split.PER_CUBE + c.loop-rank.rank) c.label-label.result (edges_of c.args.edges.now.keys) (edges_of c.loop-rank.edges.keys) (edges_of c.add_cell.new.edges.keys)
+    refl (c.label-label.ensures.label s iso number axes is) (c.loop-rank.invariant s iso number axes is) (c.in_ok-add_cell.ensures s iso number axes is)
 
 pub returns : goal.returns
-returns g c =
-    let iso : to_z w64 (of_z w64 c.args.iso) ≡ c.args.iso = to_z-of_z w64 c.args.iso c.ranges.iso in
+returns g c = λ s iso number axes is.
     let all : c.loop-rank.rank ≡ g.C.Split.PER_CUBE = omega (arith, c.loop-rank-test.false, c.loop-rank.auto.rank-end, c.PER_CUBE-rank-end.ensures) in
-    let added : Adds (IsBipolarFrom (volume g.C.Cell.KIND c.args.grid.now c.args.iso None) g.C.Cell.EDGES c.first_cell-first.result c.loop-rank.rank) (edges_of c.args.edges.now.keys) (edges_of c.loop-rank.edges.keys) =
-    subst (λ (z : ℤ). Adds (IsBipolarFrom (volume g.C.Cell.KIND c.args.grid.now z None) g.C.Cell.EDGES c.first_cell-first.result c.loop-rank.rank) (edges_of c.args.edges.now.keys) (edges_of c.loop-rank.edges.keys)) iso c.loop-rank.invariant in
-    let ranks : Adds (IsBipolarFrom (volume g.C.Cell.KIND c.args.grid.now c.args.iso None) g.C.Cell.EDGES c.first_cell-first.result g.C.Split.PER_CUBE) (edges_of c.args.edges.now.keys) (edges_of c.loop-rank.edges.keys) =
-    subst (λ (n : ℕ). Adds (IsBipolarFrom (volume g.C.Cell.KIND c.args.grid.now c.args.iso None) g.C.Cell.EDGES c.first_cell-first.result n) (edges_of c.args.edges.now.keys) (edges_of c.loop-rank.edges.keys)) all added in
-    subst (λ (n : ℕ). Adds (IsBipolarFrom (volume g.C.Cell.KIND c.args.grid.now c.args.iso None) g.C.Cell.EDGES n g.C.Split.PER_CUBE) (edges_of c.args.edges.now.keys) (edges_of c.loop-rank.edges.keys)) c.first_cell-first.ensures.first ranks
+    subst (λ (n : ℕ). Adds (IsBipolarFrom (volume g.C.Cell.KIND s iso None) g.C.Cell.EDGES (number * g.C.Split.PER_CUBE) n) (edges_of c.args.edges.now.keys) (edges_of c.loop-rank.edges.keys)) all (c.loop-rank.invariant s iso number axes is)

@@ -3,8 +3,14 @@ use Rattle.std.specs.Prelude.{slice_index}
 use Rattle.iso_model.specs.Splits.{cube_count}
 use Rattle.mixed_cubes.specs.Faces.{face_steps}
 use Rattle.mixed_cubes.proofs.AxisSteps.{parts}
-use Rattle.mixed_cubes.proofs.RowLaws.{steps_are, row_inside, row_first, row_numbers, next_row}
+use Rattle.mixed_cubes.proofs.RowLaws.{steps_are, steps_inside, steps_long, row_inside, row_first, row_numbers, next_row}
 use Rattle.mixed_cubes.proofs.cubes.mixed_rows.Goals as goal
+
+pub slice_bounds-corners-end : goal.slice_bounds-corners-end
+slice_bounds-corners-end c = steps_inside (length c.args.others.now) c.face_corners-corners.result c.requires.axes (omega arith)
+
+pub slice_bounds-steps-end : goal.slice_bounds-steps-end
+slice_bounds-steps-end c = steps_long (length c.args.others.now) c.face_corners-corners.result c.requires.axes (omega arith)
 
 pub cube_count-row-end-requires-clause-few : goal.cube_count-row-end-requires-clause-few
 cube_count-row-end-requires-clause-few c = let p = parts c.args.size c.args.others.now c.requires.sized in omega (arith, p.below, c.requires.few)

@@ -1,0 +1,4 @@
+pub mod SetBits
+pub mod CellPoints
+pub mod Samples
+pub mod Spans
