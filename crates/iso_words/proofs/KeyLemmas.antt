@@ -7,9 +7,9 @@ use Rattle.std.proofs.lemmas.Slice.Eq.{bytes_eq-Decides}
 use Rattle.iso_model.specs.Orders.{has, same_list}
 use Rattle.iso_model.specs.Commands.{value_for, has_key_of}
 use Rattle.iso_words.specs.declared.keys.Key.{Key}
-use Rattle.iso_words.specs.declared.keys.Key.TheVariants.{Table, Grid, Iso}
+use Rattle.iso_words.specs.declared.keys.Key.TheVariants.{Kind, Dim, Table, Grid, Iso}
 use Rattle.iso_words.specs.declared.keys.CommandName.{CommandName}
-use Rattle.iso_words.specs.declared.keys.CommandName.TheVariants.{Check, Extract}
+use Rattle.iso_words.specs.declared.keys.CommandName.TheVariants.{Generate, Check, Extract}
 use Rattle.iso_words.specs.Keys.{key_text, keys_of, has_key}
 
 some_test : {A : Type 0} (t : Bool) (x v : A) → cond t (Some x) None ≡ Some v → t ≡ true
@@ -44,9 +44,18 @@ pub has_key_of-key : (name : CommandName) (key : Key) (word v : List ℕ) → va
 has_key_of-key name key word v e = has_key_of-some (keys_of name) (key_text key) word v e ∙ known name key
   where
     known : (n : CommandName) (k : Key) → list_any (same_list (key_text k)) (keys_of n) ≡ has_key n k
+    known Generate Kind = refl
+    known Generate Dim = refl
+    known Generate Table = refl
+    known Generate Grid = refl
+    known Generate Iso = refl
+    known Check Kind = refl
+    known Check Dim = refl
     known Check Table = refl
     known Check Grid = refl
     known Check Iso = refl
+    known Extract Kind = refl
+    known Extract Dim = refl
     known Extract Table = refl
     known Extract Grid = refl
     known Extract Iso = refl
@@ -64,5 +73,6 @@ has_key_of-none (key ∷ keys) word none =
     and_or (has word 61) (same_list b key) (list_any (same_list b) keys) (none_test _ _ none.0) (has_key_of-none keys word none.1)
 
 pub has_key_of-no_key : (name : CommandName) (word : List ℕ) → ((key : Key) → value_for (key_text key) word ≡ None) → has_key_of (keys_of name) word ≡ false
+has_key_of-no_key Generate word none = has_key_of-none (keys_of Generate) word (none Kind, (none Dim, tt))
 has_key_of-no_key Check word none = has_key_of-none (keys_of Check) word (none Table, tt)
 has_key_of-no_key Extract word none = has_key_of-none (keys_of Extract) word (none Table, (none Grid, (none Iso, tt)))

@@ -1,5 +1,6 @@
 pub mod KeyLemmas
 pub mod StoodLemmas
+pub mod KindLemmas
 pub mod RightLemmas
 pub mod NumberLemmas
 pub mod TakeLemmas

@@ -1,5 +1,5 @@
 -- A plain number is read by `parse`.
-use Rattle.std.proofs.Common.{◌≡◌, ℕ, ◌<◌, Bool, true, false, not, ◌&&◌, ◌||◌, cond, List, [], ◌∷◌, length, drop, refl, sym, ap, subst, arith, rules, FitsSigned, w64}
+use Rattle.std.proofs.Common.{◌≡◌, ℕ, ◌<◌, ◌≤◌, Bool, true, false, not, ◌&&◌, ◌||◌, cond, List, [], ◌∷◌, length, drop, refl, sym, ap, subst, arith, rules, FitsSigned, w64}
 use Rattle.std.specs.Prelude.{ℤ, pos, neg_ℤ, ◌≤ℤ◌, ◌==◌, slice_index, codes}
 use Rattle.iso_model.specs.Orders.{same_list}
 use Rattle.std.proofs.lemmas.Bool.{and_parts, not-true, eqb-false}
@@ -43,3 +43,7 @@ all_ascii_digits-list_all (b ∷ bytes) = ap (λ (t : Bool). is_ascii_digit b &&
 -- a number within the limits of an isovalue fits 64 bits
 pub isovalue_fits : (n : ℤ) → neg_ℤ (pos iso_limit) ≤ℤ n → n ≤ℤ pos iso_limit → FitsSigned w64 n
 isovalue_fits n low high = search rules
+
+-- and so does a dimension
+pub dimension_fits : (d : ℕ) → d ≤ 4 → FitsSigned w64 (pos d)
+dimension_fits d most = search rules

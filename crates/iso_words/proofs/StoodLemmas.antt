@@ -37,6 +37,15 @@ two_values a b x vs e = cc
 first_value : (a x : List ℕ) (vs : List (List ℕ)) → a ∷ vs ≡ x ∷ [] → a ≡ x
 first_value a x vs e = cc
 
+kept : (key : List ℕ) (xs ys zs : List (List ℕ)) (t u : List ℕ) → values_of key xs ≡ t ∷ [] → values_of key ((xs ++ ys) ++ zs) ≡ u ∷ [] → t ≡ u
+kept key xs ys zs t u e f = first_value t u _ (sym (values_of-append key (xs ++ ys) zs
+    ∙ ap (λ (vs : List (List ℕ)). vs ++ values_of key zs) (values_of-append key xs ys ∙ ap (λ (vs : List (List ℕ)). vs ++ values_of key ys) e)) ∙ f)
+
+-- the value that stood stays, whatever words come
+pub Stood-same : {V : Type 0} (P : List ℕ → V → Type 0) → ((t : List ℕ) (v w : V) → P t v → P t w → v ≡ w) → (key : List ℕ) (xs ys zs : List (List ℕ)) (v w : V)
+    → Stood P (Some v) (values_of key xs) → Stood P (Some w) (values_of key ((xs ++ ys) ++ zs)) → v ≡ w
+Stood-same P one key xs ys zs v w (t, e, p) (u, f, q) = one u v w (subst (λ (s : List ℕ). P s v) (kept key xs ys zs t u e f) p) q
+
 -- a word with a key that stood, or with no value of the key, begins no list in which the key stands once with such a value
 pub never_stands : {V : Type 0} (P : List ℕ → V → Type 0) (old new : Option V) (key : List ℕ) (xs : List (List ℕ)) (word text : List ℕ)
     → value_for key word ≡ Some text → Stood P old (values_of key xs) → (not (is_some old) && is_some new) ≡ false

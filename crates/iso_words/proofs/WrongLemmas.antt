@@ -1,22 +1,23 @@
 -- The first wrong word.
 use Rattle.std.proofs.Common.{◌≡◌, ◌≢◌, ℕ, ◌+◌, ◌-◌, ◌<◌, ◌≤◌, Bool, true, false, cond, List, [], ◌∷◌, ◌++◌, length, take, drop, get_or, suc, take_all, ◌⊎◌, None, refl, sym, ◌∙◌, ap, subst, arith, inl, inr}
-use Rattle.std.specs.Prelude.{ℤ, codes, IsTrue}
+use Rattle.std.specs.Prelude.{ℤ, pos, codes, IsTrue}
 use Rattle.std.specs.Option.{is_some}
 use Rattle.std.specs.String.{string_bytes}
 use Rattle.std.specs.declared.string.String.{String}
 use Rattle.std.proofs.lemmas.Bool.{false≢true, cases_order}
 use Rattle.std.proofs.lemmas.List.{take_more, take-append-drop, take-take, append_assoc, length-map, get_or-map}
 use Rattle.std.proofs.lemmas.List.Elements.{All-nil}
-use Rattle.iso_model.specs.Commands.{Command as Asked, generate_command, check_command, extract_command, demo_command, Gives, GivesNumber, Say, AreRight, BeginRight, IsWrongWord}
+use Rattle.iso_model.specs.Commands.{Command as Asked, generate_command, check_command, extract_command, demo_command, kind_name, Gives, GivesNumber, Say, AreRight, BeginRight, IsWrongWord}
 use Rattle.iso_model.specs.Commands.{has_key_of}
 use Rattle.iso_words.specs.declared.Command.{Command}
-use Rattle.iso_words.specs.declared.Command.TheVariants.{Check as check, Extract as extract}
+use Rattle.iso_words.specs.declared.Command.TheVariants.{Generate as generate, Check as check, Extract as extract}
 use Rattle.iso_words.specs.declared.keys.CommandName.{CommandName}
-use Rattle.iso_words.specs.declared.keys.CommandName.TheVariants.{Check, Extract}
+use Rattle.iso_words.specs.declared.keys.CommandName.TheVariants.{Generate, Check, Extract}
 use Rattle.iso_words.specs.declared.given.Given.{Given}
 use Rattle.iso_words.specs.Built.{is_built, texts, asked}
 use Rattle.iso_words.specs.Keys.{name_text, keys_of}
 use Rattle.iso_words.specs.Given.{Gave, given_count}
+use Rattle.iso_words.proofs.KindLemmas.{kind_name-one, pos-one}
 use Rattle.iso_words.proofs.BeginLemmas.{BeginRight-given}
 
 -- ---- words say at most one command
@@ -43,31 +44,41 @@ Say-one words (check_command table) (extract_command table' grid iso) b e s t =
     let same = head_same _ _ _ _ (sym s.are_for.named.1 ∙ t.are_for.named.1) in cc
 Say-one words (extract_command table grid iso) (check_command table') b e s t =
     let same = head_same _ _ _ _ (sym s.are_for.named.1 ∙ t.are_for.named.1) in cc
-Say-one words (generate_command kind d) c b e s t = absurd (false≢true b)
+Say-one words (generate_command kind d) (generate_command kind' d') b e s t =
+    let same_kind = kind_name-one kind kind' (one_value words (codes "kind") (kind_name kind) (kind_name kind') s.kind_is t.kind_is) in
+    let same_dim = pos-one d d' (one_number words (codes "dim") (pos d) (pos d') s.dim_is t.dim_is) in
+    cc
+Say-one words (generate_command kind d) (check_command table) b e s t =
+    let same = head_same _ _ _ _ (sym s.are_for.named.1 ∙ t.are_for.named.1) in cc
+Say-one words (generate_command kind d) (extract_command table grid iso) b e s t =
+    let same = head_same _ _ _ _ (sym s.are_for.named.1 ∙ t.are_for.named.1) in cc
+Say-one words (check_command table) (generate_command kind d) b e s t =
+    let same = head_same _ _ _ _ (sym s.are_for.named.1 ∙ t.are_for.named.1) in cc
+Say-one words (extract_command table grid iso) (generate_command kind d) b e s t =
+    let same = head_same _ _ _ _ (sym s.are_for.named.1 ∙ t.are_for.named.1) in cc
 Say-one words (demo_command kind d size seed) c b e s t = absurd (false≢true b)
-Say-one words c (generate_command kind d) b e s t = absurd (false≢true e)
 Say-one words c (demo_command kind d size seed) b e s t = absurd (false≢true e)
 
 -- ---- the first wrong word
 
 abbrev nothing : Given
-nothing = record { table = None; grid = None; iso = None }
+nothing = record { kind = None; dim = None; table = None; grid = None; iso = None }
 
 begin_nothing : BeginRight is_built []
 begin_nothing =
-    let begun = BeginRight-given Check [] nothing (record { keyed = All-nil (λ w. has_key_of (keys_of Check) w ≡ true); table = refl; grid = refl; iso = refl }) in
+    let begun = BeginRight-given Check [] nothing (record { keyed = All-nil (λ w. has_key_of (keys_of Check) w ≡ true); kind = refl; dim = refl; fits = tt; table = refl; grid = refl; iso = refl }) in
     (codes "check" ∷ begun.0, begun.1)
 
 named : (word : List ℕ) (rest : List (List ℕ)) (c : Asked) → IsTrue (is_built c) → Say (word ∷ rest) c → (name : CommandName) × (word ≡ name_text name)
+named word rest (generate_command kind d) b s = (Generate, head_same _ _ _ _ s.are_for.named.1)
 named word rest (check_command table) b s = (Check, head_same _ _ _ _ s.are_for.named.1)
 named word rest (extract_command table grid iso) b s = (Extract, head_same _ _ _ _ s.are_for.named.1)
-named word rest (generate_command kind d) b s = absurd (false≢true b)
 named word rest (demo_command kind d size seed) b s = absurd (false≢true b)
 
 none_right : (c : Asked) → IsTrue (is_built c) → Say [] c → ⊥
+none_right (generate_command kind d) b s = let e = s.are_for.named.1 in cc
 none_right (check_command table) b s = let e = s.are_for.named.1 in cc
 none_right (extract_command table grid iso) b s = let e = s.are_for.named.1 in cc
-none_right (generate_command kind d) b s = absurd (false≢true b)
 none_right (demo_command kind d size seed) b s = absurd (false≢true b)
 
 wrong_none : IsWrongWord is_built [] 1
@@ -171,6 +182,7 @@ wrong_early name further given gave never =
 
 -- the code's commands are built
 pub asked_built : (command : Command) → IsTrue (is_built (asked command))
+asked_built (generate kind dim) = refl
 asked_built (check table) = refl
 asked_built (extract table grid iso) = refl
 
@@ -180,5 +192,5 @@ at_most_one : (b : Bool) → cond b 1 0 ≤ 1
 at_most_one true = omega arith
 at_most_one false = omega arith
 
-pub few_given : (given : Given) → given_count given ≤ 3
-few_given given = omega (arith, at_most_one (is_some given.table), at_most_one (is_some given.grid), at_most_one (is_some given.iso))
+pub few_given : (given : Given) → given_count given ≤ 5
+few_given given = omega (arith, at_most_one (is_some given.kind), at_most_one (is_some given.dim), at_most_one (is_some given.table), at_most_one (is_some given.grid), at_most_one (is_some given.iso))

@@ -2,12 +2,13 @@
 use Rattle.std.specs.Prelude.{ℕ, Bool, true, false, List, map}
 use Rattle.std.specs.String.{string_bytes}
 use Rattle.std.specs.declared.string.String.{String}
-use Rattle.iso_model.specs.Commands.{Command as Asked, check_command, extract_command}
+use Rattle.iso_model.specs.Commands.{Command as Asked, generate_command, check_command, extract_command}
 use Rattle.iso_words.specs.declared.Command.{Command}
-use Rattle.iso_words.specs.declared.Command.TheVariants.{Check, Extract}
+use Rattle.iso_words.specs.declared.Command.TheVariants.{Generate, Check, Extract}
 
 -- the commands that are built
 abbrev pub is_built : Asked → Bool
+is_built (generate_command kind d) = true
 is_built (check_command table) = true
 is_built (extract_command table grid iso) = true
 is_built _ = false
@@ -18,5 +19,6 @@ texts words = map string_bytes words
 
 -- the command, by the bytes of its values
 abbrev pub asked : Command → Asked
+asked (Generate kind dim) = generate_command kind dim
 asked (Check table) = check_command table.now
 asked (Extract table grid iso) = extract_command table.now grid.now iso

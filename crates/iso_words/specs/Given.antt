@@ -1,11 +1,35 @@
 -- What the words of a command gave so far.
-use Rattle.std.specs.Prelude.{◌≡◌, ◌≢◌, ℕ, ℤ, pos, neg_ℤ, ◌≤ℤ◌, List, [], ◌∷◌, filter_map, Option, Some, None, codes, ◌+◌, if◌then◌else◌, is_some}
+use Rattle.std.specs.Prelude.{◌≡◌, ◌≢◌, ⊤, ℕ, ◌≤◌, ℤ, pos, neg_ℤ, ◌≤ℤ◌, List, [], ◌∷◌, filter_map, Option, Some, None, codes, ◌+◌, if◌then◌else◌, is_some}
 use Rattle.std.specs.List.{AllPass}
 use Rattle.std.specs.Option.{option_copied}
-use Rattle.iso_model.specs.Commands.{value_for, has_key_of, IsNumber, iso_limit}
+use Rattle.iso_model.specs.declared.Kind.{Kind}
+use Rattle.iso_model.specs.Cells.{HasDimension}
+use Rattle.iso_model.specs.Commands.{value_for, has_key_of, kind_name, IsNumber, iso_limit}
 use Rattle.iso_words.specs.Keys.{keys_of}
 use Rattle.iso_words.specs.declared.keys.CommandName.{CommandName}
 use Rattle.iso_words.specs.declared.given.Given.{Given}
+
+-- the text names the kind
+abbrev pub IsKind : List ℕ → Kind → Type 0
+IsKind text kind = text ≡ kind_name kind
+
+-- the text of a dimension, which some kind has
+abbrev pub IsDimension : List ℕ → ℕ → Type 0
+IsDimension text d = IsNumber text (pos d) × (2 ≤ d) × (d ≤ 4)
+
+-- a kind and a dimension that were given go together
+abbrev pub Fit : Option Kind → Option ℕ → Type 0
+Fit None dim = ⊤
+Fit (Some kind) None = ⊤
+Fit (Some kind) (Some d) = HasDimension kind d
+
+-- the text names a kind, which has the dimension that was given
+abbrev pub IsKindBeside : Option ℕ → List ℕ → Kind → Type 0
+IsKindBeside dim text kind = IsKind text kind × Fit (Some kind) dim
+
+-- the text of a dimension, which the kind has that was given
+abbrev pub IsDimensionBeside : Option Kind → List ℕ → ℕ → Type 0
+IsDimensionBeside kind text d = IsDimension text d × Fit kind (Some d)
 
 -- a file name has at least one character
 abbrev pub IsFile : List ℕ → List ℕ → Type 0
@@ -27,10 +51,13 @@ Stood P (Some v) values = (text : List ℕ) × (values ≡ text ∷ []) × P tex
 -- the words behind the command's name have keys of the command, none twice, and give these values
 pub record Gave (name : CommandName) (further : List (List ℕ)) (given : Given) : Type 0 where
   pub keyed : AllPass (has_key_of (keys_of name)) further
+  pub kind : Stood IsKind given.kind (values_of (codes "kind") further)
+  pub dim : Stood IsDimension given.dim (values_of (codes "dim") further)
+  pub fits : Fit given.kind given.dim
   pub table : Stood IsFile (option_copied given.table) (values_of (codes "table") further)
   pub grid : Stood IsFile (option_copied given.grid) (values_of (codes "grid") further)
   pub iso : Stood IsIsovalue given.iso (values_of (codes "iso") further)
 
 -- how many values were given
 abbrev pub given_count : Given → ℕ
-given_count given = (if is_some given.table then 1 else 0) + (if is_some given.grid then 1 else 0) + (if is_some given.iso then 1 else 0)
+given_count given = (if is_some given.kind then 1 else 0) + (if is_some given.dim then 1 else 0) + (if is_some given.table then 1 else 0) + (if is_some given.grid then 1 else 0) + (if is_some given.iso then 1 else 0)

@@ -5,11 +5,14 @@ ghost use Rattle.std.specs.Bool.{OnTrue, OnFalse};
 
 use crate::Command;
 use crate::keys::{CommandName, Key};
-use crate::values::{file_name, isovalue};
+use crate::values::{dimension_beside, file_name, isovalue, kind_beside};
+use iso_model::Kind;
 
 /// The value of each key that stood.
 #[derive(Clone, Copy)]
 pub(crate) struct Given<'a> {
+    kind: Option<Kind>,
+    dim: Option<u8>,
     table: Option<&'a str>,
     grid: Option<&'a str>,
     iso: Option<i64>,
@@ -27,6 +30,8 @@ impl<'a> Given<'a> {
         ensures count { given_count result ≡ 0 }
     {
         Given {
+            kind: None,
+            dim: None,
             table: None,
             grid: None,
             iso: None,
@@ -47,6 +52,8 @@ impl<'a> Given<'a> {
             return false;
         }
         match key {
+            Key::Kind => put(&mut self.kind, kind_beside(self.dim, value)),
+            Key::Dim => put(&mut self.dim, dimension_beside(self.kind, value)),
             Key::Table => put(&mut self.table, file_name(value)),
             Key::Grid => put(&mut self.grid, file_name(value)),
             Key::Iso => put(&mut self.iso, isovalue(value)),
@@ -58,14 +65,19 @@ impl<'a> Given<'a> {
         ensures said { (further : List (List ℕ)) → Gave name further self.entry → IfSome result (λ command. Say (name_text name ∷ further) (asked command)) }
         ensures early { (further : List (List ℕ)) → Gave name further self.entry → IfNone result (¬ AreRight is_built (name_text name ∷ further)) }
     {
-        match (name, self.table, self.grid, self.iso) {
-            (CommandName::Check, Some(table), _, _) => Some(Command::Check { table }),
-            (CommandName::Extract, Some(table), Some(grid), Some(iso)) => Some(Command::Extract {
-                table,
-                grid,
-                iso,
-            }),
-            _ => None,
+        match name {
+            CommandName::Generate => match (self.kind, self.dim) {
+                (Some(kind), Some(dim)) => Some(Command::Generate { kind, dim }),
+                _ => None,
+            },
+            CommandName::Check => match self.table {
+                Some(table) => Some(Command::Check { table }),
+                None => None,
+            },
+            CommandName::Extract => match (self.table, self.grid, self.iso) {
+                (Some(table), Some(grid), Some(iso)) => Some(Command::Extract { table, grid, iso }),
+                _ => None,
+            },
         }
     }
 }

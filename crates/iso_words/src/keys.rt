@@ -3,6 +3,7 @@
 /// A command, by its name.
 #[derive(Clone, Copy)]
 pub(crate) enum CommandName {
+    Generate,
     Check,
     Extract,
 }
@@ -15,7 +16,9 @@ impl CommandName {
     pub(crate) fn named(word: &str) -> Option<CommandName>
         ensures { MatchOption result ((name : CommandName) → word.now ≢ name_text name) (λ name. word.now ≡ name_text name) }
     {
-        if word == "check" {
+        if word == "generate" {
+            Some(CommandName::Generate)
+        } else if word == "check" {
             Some(CommandName::Check)
         } else if word == "extract" {
             Some(CommandName::Extract)
@@ -29,8 +32,9 @@ impl CommandName {
         ensures { result ≡ has_key self key }
     {
         match self {
+            CommandName::Generate => matches!(key, Key::Kind | Key::Dim),
             CommandName::Check => matches!(key, Key::Table),
-            CommandName::Extract => true,
+            CommandName::Extract => matches!(key, Key::Table | Key::Grid | Key::Iso),
         }
     }
 }
@@ -38,6 +42,8 @@ impl CommandName {
 /// A key, by its name.
 #[derive(Clone, Copy)]
 pub(crate) enum Key {
+    Kind,
+    Dim,
     Table,
     Grid,
     Iso,
@@ -52,7 +58,11 @@ impl Key {
     fn named(text: &str) -> Option<Key>
         ensures { MatchOption result ((key : Key) → text.now ≢ key_text key) (λ key. text.now ≡ key_text key) }
     {
-        if text == "table" {
+        if text == "kind" {
+            Some(Key::Kind)
+        } else if text == "dim" {
+            Some(Key::Dim)
+        } else if text == "table" {
             Some(Key::Table)
         } else if text == "grid" {
             Some(Key::Grid)

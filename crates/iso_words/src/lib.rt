@@ -5,11 +5,13 @@
 //!
 //! | words | asks |
 //! |---|---|
+//! | `generate kind=K dim=N` | the table of the construction, of a kind and a dimension |
 //! | `check table=F` | whether the table of the file is accepted |
 //! | `extract table=F grid=F iso=N` | the mesh of the grid at the isovalue |
 //!
-//! F is a file name of at least one character. N is an optional `-` and digits, without a leading zero but `0` itself,
-//! and not `-0`; it lies from -1099511627776 to 1099511627776. Letter case matters everywhere.
+//! K is `cube`, `simplex` or `pyramid`, and F is a file name of at least one character. N is an optional `-` and digits,
+//! without a leading zero but `0` itself, and not `-0`. A dimension is 2, 3 or 4, and 3 with `pyramid`; an isovalue lies
+//! from -1099511627776 to 1099511627776. Letter case matters everywhere.
 #![tactic(auto)]
 
 ghost use Rattle.std.specs.Prelude.{◌≡◌, ℕ, IsTrue, IfOk, IfErr, IsOkAnd, IsErrAnd};
@@ -21,11 +23,17 @@ mod keys;
 mod values;
 
 use given::Given;
+use iso_model::Kind;
 use keys::CommandName;
 
 /// What the words ask for.
 #[derive(Clone, Copy, Debug, PartialEq, Eq)]
 pub enum Command<'a> {
+    /// Generate the table of a kind and a dimension: 2, 3 or 4, and 3 of pyramids.
+    Generate {
+        kind: Kind,
+        dim: u8,
+    },
     /// Check the table of a file.
     Check {
         table: &'a str,

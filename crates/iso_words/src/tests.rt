@@ -13,6 +13,10 @@ fn words_of(alloc: Global, line: &str) -> Result<Vec<String>, AllocError> {
     Ok(words)
 }
 
+const fn generate<'a>(kind: Kind, dim: u8) -> Command<'a> {
+    Command::Generate { kind, dim }
+}
+
 const fn check(table: &str) -> Command<'_> {
     Command::Check { table }
 }
@@ -24,6 +28,22 @@ const fn extract<'a>(table: &'a str, grid: &'a str, iso: i64) -> Command<'a> {
 #[test]
 fn right_words_say_their_command(rt: HostRuntime) -> Result<(), Fail> {
     let rows = [
+        // each kind and dimension, in both orders of the keys
+        ("generate kind=cube dim=2", generate(Kind::Cube, 2)),
+        ("generate kind=cube dim=3", generate(Kind::Cube, 3)),
+        ("generate kind=cube dim=4", generate(Kind::Cube, 4)),
+        ("generate kind=simplex dim=2", generate(Kind::Simplex, 2)),
+        ("generate kind=simplex dim=3", generate(Kind::Simplex, 3)),
+        ("generate kind=simplex dim=4", generate(Kind::Simplex, 4)),
+        ("generate kind=pyramid dim=3", generate(Kind::Pyramid, 3)),
+        ("generate dim=2 kind=cube", generate(Kind::Cube, 2)),
+        ("generate dim=3 kind=cube", generate(Kind::Cube, 3)),
+        ("generate dim=4 kind=cube", generate(Kind::Cube, 4)),
+        ("generate dim=2 kind=simplex", generate(Kind::Simplex, 2)),
+        ("generate dim=3 kind=simplex", generate(Kind::Simplex, 3)),
+        ("generate dim=4 kind=simplex", generate(Kind::Simplex, 4)),
+        ("generate dim=3 kind=pyramid", generate(Kind::Pyramid, 3)),
+        // file names
         ("check table=a", check("a")),
         ("check table==x=y", check("=x=y")),
         ("check table=A", check("A")),
@@ -70,9 +90,12 @@ fn wrong_words_are_counted(rt: HostRuntime) -> Result<(), Fail> {
         ("Check table=a", 1),
         ("CHECK", 1),
         ("check=a table=a", 1),
-        ("generate dim=2 kind=pyramid", 1),
+        ("Generate kind=cube dim=2", 1),
         ("demo kind=cube dim=2 size=2 seed=0", 1),
         // a key is missing
+        ("generate", 2),
+        ("generate kind=cube", 3),
+        ("generate kind=pyramid", 3),
         ("check", 2),
         ("extract", 2),
         ("extract iso=1", 3),
@@ -80,6 +103,8 @@ fn wrong_words_are_counted(rt: HostRuntime) -> Result<(), Fail> {
         ("extract table=a iso=1", 4),
         ("extract grid=b iso=1", 4),
         // a key that stood before
+        ("generate kind=cube kind=cube", 3),
+        ("generate dim=3 dim=3", 3),
         ("check table=a table=a", 3),
         ("check table=a table=b", 3),
         ("extract table=a table=b grid=c iso=0", 3),
@@ -87,6 +112,10 @@ fn wrong_words_are_counted(rt: HostRuntime) -> Result<(), Fail> {
         ("extract iso=1 iso=2", 3),
         ("extract table=a grid=b iso=0 iso=0", 5),
         // no key of the command
+        ("generate table=a", 2),
+        ("generate kind=cube dim=3 x", 4),
+        ("generate dim=4 kind=cube iso=0", 4),
+        ("check kind=cube", 2),
         ("check ", 2),
         ("check table", 2),
         ("check =a", 2),
@@ -100,6 +129,17 @@ fn wrong_words_are_counted(rt: HostRuntime) -> Result<(), Fail> {
         ("extract table=a grid=b iso=1 x", 5),
         ("extract table=a grid=b iso=1 x y", 5),
         // no right value
+        ("generate kind=Cube", 2),
+        ("generate kind=cube dim=1", 3),
+        ("generate dim=5", 2),
+        ("generate dim=02", 2),
+        ("generate dim=+3", 2),
+        ("generate dim= ", 2),
+        // a kind and a dimension that do not go together
+        ("generate kind=pyramid dim=2", 3),
+        ("generate dim=2 kind=pyramid", 3),
+        ("generate dim=4 kind=pyramid", 3),
+        // a file name or an isovalue
         ("check table=", 2),
         ("extract table=a grid= iso=05", 3),
         ("extract table=a grid=b iso=05", 4),

@@ -1,13 +1,84 @@
-//! The values of keys: file names and whole numbers.
+//! The values of keys: kinds, dimensions, file names and isovalues.
 
-ghost use Rattle.std.specs.Prelude.{◌≡◌, ℤ, [], MatchOption, not, ◌&&◌, ◌||◌, ◌==◌, length, drop, slice_index, if◌then◌else◌};
+ghost use Rattle.std.specs.Prelude.{◌≡◌, ℕ, ℤ, [], MatchOption, not, ◌&&◌, ◌||◌, ◌==◌, length, drop, slice_index, FitsSigned, if◌then◌else◌};
+ghost use Rattle.std.specs.Int.{w64};
+ghost use Rattle.std.specs.Bool.{OnTrue, OnFalse};
 ghost use Rattle.std.specs.Str.{all_ascii_digits};
 ghost use Rattle.std.specs.Str.Parse.{starts_with_minus};
+ghost use Rattle.iso_model.specs.Cells.{HasDimension};
 ghost use Rattle.iso_model.specs.Commands.{is_number, IsNumber};
-ghost use Rattle.iso_words.specs.Given.{IsFile, IsIsovalue};
+ghost use Rattle.iso_words.specs.Given.{IsKind, IsDimension, IsFile, IsIsovalue, IsKindBeside, IsDimensionBeside};
+
+use iso_model::Kind;
 
 // The greatest size of an isovalue.
 const ISO_LIMIT: i64 = 1 << 40;
+
+// A kind, which has the dimension that was given, if one was.
+pub(crate) fn kind_beside(dim: Option<u8>, value: &str) -> Option<Kind>
+    ensures { MatchOption result ((kind : Kind) → ¬ IsKindBeside dim value.now kind) (λ kind. IsKindBeside dim value.now kind) }
+{
+    let Some(kind) = kind_named(value) else {
+        return None;
+    };
+    match dim {
+        Some(dim) if !has_dimension(kind, dim) => None,
+        _ => Some(kind),
+    }
+}
+
+// A dimension, which the kind has that was given, if one was.
+pub(crate) fn dimension_beside(kind: Option<Kind>, value: &str) -> Option<u8>
+    ensures { MatchOption result ((d : ℕ) → ¬ IsDimensionBeside kind value.now d) (λ d. IsDimensionBeside kind value.now d) }
+{
+    let Some(dim) = dimension(value) else {
+        return None;
+    };
+    match kind {
+        Some(kind) if !has_dimension(kind, dim) => None,
+        _ => Some(dim),
+    }
+}
+
+// The kind that a text names.
+fn kind_named(value: &str) -> Option<Kind>
+    ensures { MatchOption result ((kind : Kind) → ¬ IsKind value.now kind) (λ kind. IsKind value.now kind) }
+{
+    if value == "cube" {
+        Some(Kind::Cube)
+    } else if value == "simplex" {
+        Some(Kind::Simplex)
+    } else if value == "pyramid" {
+        Some(Kind::Pyramid)
+    } else {
+        None
+    }
+}
+
+// A dimension within its limits.
+fn dimension(value: &str) -> Option<u8>
+    ensures { MatchOption result ((d : ℕ) → ¬ IsDimension value.now d) (λ d. IsDimension value.now d) }
+{
+    let Some(n) = number(value) else {
+        return None;
+    };
+    if (2..=4).contains(&n) {
+        Some(n as u8)
+    } else {
+        None
+    }
+}
+
+// Whether the kind has the dimension: cubes and simplices have 2, 3 and 4, pyramids 3.
+fn has_dimension(kind: Kind, dim: u8) -> bool
+    ensures has { OnTrue result (HasDimension kind dim) }
+    ensures lacks { OnFalse result (¬ HasDimension kind dim) }
+{
+    match kind {
+        Kind::Cube | Kind::Simplex => (2..=4).contains(&dim),
+        Kind::Pyramid => dim == 3,
+    }
+}
 
 // A file name of at least one character.
 pub(crate) fn file_name(value: &str) -> Option<&str>
@@ -20,16 +91,26 @@ pub(crate) fn file_name(value: &str) -> Option<&str>
 pub(crate) fn isovalue(value: &str) -> Option<i64>
     ensures { MatchOption result ((n : ℤ) → ¬ IsIsovalue value.now n) (λ n. IsIsovalue value.now n) }
 {
-    if !is_plain(value) {
-        return None;
-    }
-    let Ok(n) = value.parse::<i64>() else {
+    let Some(n) = number(value) else {
         return None;
     };
     if (-ISO_LIMIT..=ISO_LIMIT).contains(&n) {
         Some(n)
     } else {
         None
+    }
+}
+
+// A number that fits 64 bits.
+fn number(value: &str) -> Option<i64>
+    ensures { MatchOption result ((n : ℤ) → FitsSigned w64 n → ¬ IsNumber value.now n) (λ n. IsNumber value.now n) }
+{
+    if !is_plain(value) {
+        return None;
+    }
+    match value.parse::<i64>() {
+        Ok(n) => Some(n),
+        Err(_) => None,
     }
 }
 
