@@ -1,0 +1,9 @@
+pub mod Pieces
+pub mod OrderKept
+pub mod SignCounts
+pub mod InFacets
+pub mod OwnPart
+pub mod OneFace
+pub mod FreeFacets
+pub mod GluedFaces
+pub mod InOneCell

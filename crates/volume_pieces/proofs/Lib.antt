@@ -1,0 +1,12 @@
+pub mod PiecesOf
+pub mod Labels
+pub mod Edges
+pub mod Chords
+pub mod FreeFacets
+pub mod AcrossFound
+pub mod AcrossStands
+pub mod AcrossEdges
+pub mod Seams
+pub mod AcrossSeams
+pub mod AcrossShares
+pub mod AcrossMatches
