@@ -1,12 +1,20 @@
 //! Laws that glue the meshes of cells. Their calls do nothing when they run; their contracts carry the laws.
 #![tactic(auto)]
 
-ghost use Rattle.std.specs.Prelude.{◌^◌, ◌<◌};
+ghost use Rattle.std.specs.Prelude.{◌≡◌, ◌^◌, ◌<◌, None};
 ghost use Rattle.iso_model.specs.Splits.{cell_count};
 ghost use Rattle.iso_model.specs.Neighbours.{ShareLaw};
+ghost use Rattle.iso_model.specs.Values.{IsRegularGrid, volume};
+ghost use Rattle.iso_model.specs.Placed.{placed_mesh};
+ghost use Rattle.iso_model.specs.Surface.{IsClosed, IsPlaced, IsSided, FacesAreOuter};
 ghost use Rattle.glue_faces.specs.EdgeSets.{edges_in};
 
+#[cfg(test)]
+mod tests;
+
 use grid_split::{Complex, Split};
+use nrrd_raw::Grid;
+use table_check::Checked;
 
 /// The share law: where two different cells both have all edges of a set, the set lies in a facet of each; where it
 /// lies in exactly one facet of `cell`, the other cell is the neighbour across it.
@@ -27,21 +35,23 @@ pub fn share_law<C: Split<D>, const D: usize>(
     let _ = complex.cells();
 }
 
-#[cfg(test)]
-mod tests {
-    use super::*;
-    use cell_lattice::{CubeCell, PyramidCell, SimplexCell};
-    use std::test::Fail;
-
-    #[test]
-    fn is_a_law_of_each_kind(rt: HostRuntime) -> Result<(), Fail> {
-        let squares = Complex::<CubeCell<2>, 2>::new([3, 2]);
-        share_law(&squares, 0, 1, 0b0100);
-        let simplices = Complex::<SimplexCell<4>, 4>::new([2, 2, 2, 2]);
-        share_law(&simplices, 23, 0, 0);
-        let pyramids = Complex::<PyramidCell, 3>::new([2, 2, 2]);
-        share_law(&pyramids, 0, 5, 0b1000_0001);
-        assert_eq!(rt; squares.cells(), 2);
-        Ok(())
-    }
+/// The face law: the mesh of a grid by an accepted table, at any isovalue, is closed, each of its simplices is of exactly
+/// one cell and turned to its positive side, and its boundary lies on the outer boundary of the grid.
+///
+/// The complex is that of the grid.
+pub fn face_law<C: Split<D>, const D: usize>(
+    table: &Checked<C, D>,
+    complex: &Complex<C, D>,
+    grid: &Grid,
+    iso: i64,
+)
+    requires regular { IsRegularGrid grid.now }
+    requires sizes { complex.now ≡ grid.now.sizes }
+    ensures closed { IsClosed (volume C.KIND grid.now iso None) (placed_mesh (volume C.KIND grid.now iso None) table.now).simplices }
+    ensures placed { IsPlaced (volume C.KIND grid.now iso None) (placed_mesh (volume C.KIND grid.now iso None) table.now).simplices }
+    ensures sided { IsSided (volume C.KIND grid.now iso None) (placed_mesh (volume C.KIND grid.now iso None) table.now).simplices }
+    ensures outer { FacesAreOuter (volume C.KIND grid.now iso None) (placed_mesh (volume C.KIND grid.now iso None) table.now).simplices }
+{
+    let _ = table.table();
+    let _ = complex.cells();
 }

@@ -1,0 +1,10 @@
+pub mod Walks
+pub mod Readings
+pub mod Links
+pub mod Arcs
+pub mod Homes
+pub mod LinkLaw
+pub mod TrianglesAt
+pub mod TrianglesOnce
+pub mod TrianglesMet
+pub mod TrianglesLinked

@@ -1,0 +1,13 @@
+pub mod AcceptedEntries
+pub mod LawfulPieces
+pub mod Surface
+pub mod FanPieces
+pub mod LinkedArcs
+pub mod Linked
+pub mod Isosurface
+pub mod SideFacets
+pub mod OuterFacets
+pub mod OuterEdges
+pub mod OneArc
+pub mod LinkedByWalks
+pub mod GridSurface
