@@ -1,11 +1,9 @@
 -- Tables that the check accepts or refuses.
-use Rattle.std.proofs.Common.{◌≡◌, ℕ, ◌<◌, true, List, Option, sym, subst, lit≤}
+use Rattle.std.proofs.Common.{◌≡◌, ℕ, List, Option, sym, subst}
 use Rattle.std.specs.Prelude.{Result, Ok, Err, IfOk, IfErr}
 use Rattle.iso_base.specs.Files.{Files}
-use Rattle.iso_model.specs.declared.Kind.{Kind}
-use Rattle.iso_model.specs.Acceptance.{IsAccepted, IsRefusedAt, rule_edges}
-use Rattle.iso_model.specs.Cells.{label_count}
-use Rattle.iso_model.specs.Tables.{IsTable, Table, entry_of}
+use Rattle.iso_model.specs.Acceptance.{IsAccepted, IsRefusedAt}
+use Rattle.iso_model.specs.Tables.{IsTable, Table}
 use Rattle.iso_cli.specs.declared.checked.CheckedTable.{CheckedTable}
 use Rattle.iso_cli.specs.declared.status.Status.{Status}
 use Rattle.iso_cli.specs.declared.status.Status.TheVariants as Statuses

@@ -10,6 +10,7 @@ use Rattle.iso_base.specs.Files.{Files, bytes_of}
 use Rattle.iso_base.specs.Fronts.{AppendsFront}
 use Rattle.iso_model.specs.Commands.{AreRight, Command, IsWrongWord, Say, generate_command, check_command, extract_command, demo_command}
 use Rattle.iso_words.specs.Built.{is_built}
+use Rattle.iso_words.proofs.WrongLemmas.{Say-one}
 use Rattle.iso_cli.specs.declared.status.Status.{Status}
 use Rattle.iso_cli.specs.declared.status.Status.TheVariants as Statuses
 use Rattle.iso_cli.specs.Refusals.{FileHas}
@@ -18,7 +19,6 @@ use Rattle.iso_cli.specs.Outputs.{BlamesOutput}
 use Rattle.iso_cli.specs.Statuses.{IsDecided, IsDoneOrMemory, IsUsage}
 use Rattle.iso_cli.specs.StatusLines.{status_line}
 use Rattle.iso_cli.proofs.Excluding.{WrongEdgesStop, not_refused_check, not_refused_mesh}
-use Rattle.iso_cli.proofs.Saying.{said_once}
 
 -- ---- the files
 
@@ -113,7 +113,7 @@ complete faults files sound words (Statuses.Unfit table grid) old new before now
 -- files that hold what a command needs are not refused
 not_refused : (files : Option Files) (command : Command) (status : Status) → WrongEdgesStop → IsSome files → HoldNeeded files command → AreRefused files status command → ⊥
 not_refused None command status stops told holds refused = let none : IsSome {T = Files} None = told in cc
-not_refused (Some files) (generate_command kind d) status stops told holds refused = holds
+not_refused (Some files) (generate_command kind d) status stops told holds refused = refused
 not_refused (Some files) (check_command table) status stops told holds refused = not_refused_check files table holds.0 status stops holds.1 refused
 not_refused (Some files) (extract_command table grid iso) status stops told holds refused = not_refused_mesh files table grid holds.0 holds.1 status stops holds.2 refused
 not_refused (Some files) (demo_command kind d size seed) status stops told holds refused = holds
@@ -129,5 +129,5 @@ answerable files words stops told said = (
   λ status decided true_of.
       let other = decided_answer files words status decided true_of in
       not_refused files said.0 status stops told said.3
-      (subst (λ (c : Command). AreRefused files status c) (said_once words other.0 said.0 other.1 said.1 other.2 said.2) (other.3 decided)),
+      (subst (λ (c : Command). AreRefused files status c) (Say-one words other.0 said.0 other.1 said.1 other.2 said.2) (other.3 decided)),
 )

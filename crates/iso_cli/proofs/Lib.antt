@@ -3,5 +3,5 @@ pub mod Refusing
 pub mod Accepting
 pub mod Putting
 pub mod Excluding
-pub mod Saying
 pub mod Answering
+pub mod Surfaces

@@ -3,8 +3,11 @@ use Rattle.std.specs.Prelude.{◌≡◌, ◌≤◌, ℕ, ℤ, List, [], ◌∷�
 use Rattle.std.specs.Io.KnownBytes.{Appends}
 use Rattle.iso_base.specs.Faults.{Rose}
 use Rattle.iso_base.specs.Fronts.{AppendsFront}
+use Rattle.iso_model.specs.declared.Kind.{Kind}
+use Rattle.iso_model.specs.Entries.{IsHullTable}
 use Rattle.iso_model.specs.MeshText.{mesh_text}
 use Rattle.iso_model.specs.Placed.{placed_mesh}
+use Rattle.iso_model.specs.TableFile.{table_bytes}
 use Rattle.iso_model.specs.Tables.{Table}
 use Rattle.iso_model.specs.Values.{Grid, volume}
 use Rattle.iso_cli.specs.declared.status.Status.{Status}
@@ -14,6 +17,14 @@ use Rattle.iso_cli.specs.Statuses.{IsRefusal}
 -- the text of the placed mesh of a table in a grid at an isovalue
 abbrev pub placed_text : Table → Grid → ℤ → List ℕ
 placed_text t g iso = mesh_text t.dimension (placed_mesh (volume t.kind g iso None) t)
+
+-- the bytes of the table that the construction gives for a kind and a dimension
+pub record IsGenerated (kind : Kind) (d : ℕ) (text : List ℕ) : Type 0 where
+  pub t : Table
+  pub of_kind : t.kind ≡ kind
+  pub of_dimension : t.dimension ≡ d
+  pub made : IsHullTable t
+  pub spelled : text ≡ table_bytes t
 
 -- the line for an accepted table
 abbrev pub accepted_line : List ℕ

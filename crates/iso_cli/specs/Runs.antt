@@ -1,20 +1,28 @@
 -- What a run of the program promises: its answer, what it leaves of the shelf, what it puts to the output, and the line.
-use Rattle.std.specs.Prelude.{◌≡◌, ◌≤◌, ◌⊎◌, ℕ, ℤ, List, [], ◌∷◌, Option, None, IsSome, IsTrue}
+use Rattle.std.specs.Prelude.{◌≡◌, ◌≤◌, ◌⊎◌, ◌↔◌, ℕ, ℤ, List, [], ◌∷◌, length, map, Contains, Option, None, IsSome, IsTrue, ⊤}
 use Rattle.std.specs.List.{AllByRecursion}
 use Rattle.std.specs.Io.KnownBytes.{Appends}
 use Rattle.iso_base.specs.Faults.{Rose}
 use Rattle.iso_base.specs.Files.{Files, bytes_of}
 use Rattle.iso_base.specs.Fronts.{AppendsFront}
+use Rattle.iso_model.specs.declared.Kind.{Kind}
 use Rattle.iso_model.specs.Commands.{Command, Say, generate_command, check_command, extract_command, demo_command, AreRight, IsWrongWord}
+use Rattle.iso_model.specs.Bipolar.{bipolar_edge}
+use Rattle.iso_model.specs.Boundary.{OnBoundary}
+use Rattle.iso_model.specs.Faces.{face_without}
+use Rattle.iso_model.specs.Neighbours.{OnOuterBoundary, ends_of}
+use Rattle.iso_model.specs.Isosurfaces.{IsIsosurface}
+use Rattle.iso_model.specs.Links.{IsLinkedByWalks}
+use Rattle.iso_model.specs.Placed.{placed_mesh}
 use Rattle.iso_model.specs.Tables.{Table}
-use Rattle.iso_model.specs.Values.{Grid}
+use Rattle.iso_model.specs.Values.{Grid, Volume, volume}
 use Rattle.iso_words.specs.Built.{is_built}
 use Rattle.iso_cli.specs.declared.status.Status.{Status}
 use Rattle.iso_cli.specs.declared.status.Status.TheVariants as Statuses
-use Rattle.iso_cli.specs.Outputs.{accepted_line, placed_text}
+use Rattle.iso_cli.specs.Outputs.{IsGenerated, accepted_line, placed_text}
 use Rattle.iso_cli.specs.Refusals.{FileHas, HoldBoth, HoldsAccepted, IsRefusedMesh, IsRefusedTable}
 use Rattle.iso_cli.specs.Shelves.{IsSameShelf, BlamesShelf}
-use Rattle.iso_cli.specs.Statuses.{IsDecided, IsShelfFault, IsUsage}
+use Rattle.iso_cli.specs.Statuses.{IsDecided, IsOfPutting, IsShelfFault, IsUsage}
 use Rattle.iso_cli.specs.StatusLines.{status_line}
 
 -- the words say a command that is built, and this holds of it
@@ -43,9 +51,9 @@ IsTrueAnswer files words status = SayBuilt words (IsTrueOf files status)
 abbrev pub IsAnswerable : Option Files → List (List ℕ) → Type 0
 IsAnswerable files words = AreRight is_built words × ((status : Status) → IsDecided status → ¬ IsTrueAnswer files words status)
 
--- the files hold what a command needs: an accepted table, and for a mesh a grid of its dimension
+-- the files hold what a command needs: for a generated table nothing, for the check an accepted table, and for a mesh such a table and a grid of its dimension
 abbrev pub HoldNeeded : Option Files → Command → Type 0
-HoldNeeded files (generate_command kind d) = ⊥
+HoldNeeded files (generate_command kind d) = ⊤
 HoldNeeded files (check_command table) = (t : Table) × HoldsAccepted files table t
 HoldNeeded files (extract_command table grid iso) = (t : Table) × (g : Grid) × HoldBoth files table grid t g
 HoldNeeded files (demo_command kind d size seed) = ⊥
@@ -88,19 +96,34 @@ ServesWell faults files sound words old new = ¬ Rose (faults old) (faults new) 
 
 -- ---- the output
 
--- the text of the placed mesh of the table and the grid that the files hold, at the isovalue
+-- a face of a simplex lies on the boundary exactly where the ends of its edges lie on the outer boundary of the grid
+abbrev pub HasOuterBoundary : Volume → List (List ℕ) → Type 0
+HasOuterBoundary v simplices = (w : List ℕ) (i : ℕ) → Contains simplices w
+    → OnBoundary v (face_without w i) ↔ OnOuterBoundary v.sizes (ends_of (map (bipolar_edge v) (face_without w i)))
+
+-- the text of the placed mesh of the table and the grid that the files hold, at the isovalue; and this mesh is an isosurface, whose boundary is on that of the grid,
+-- and in three dimensions the triangles at each vertex are met by one walk, which closes exactly where the vertex is not on that boundary
 pub record IsMeshText (files : Option Files) (table grid : List ℕ) (iso : ℤ) (text : List ℕ) : Type 0 where
   pub t : Table
   pub g : Grid
   pub held : HoldBoth files table grid t g
   pub spelled : text ≡ placed_text t g iso
+  pub surface : IsIsosurface (volume t.kind g iso None) (placed_mesh (volume t.kind g iso None) t)
+  pub outer : HasOuterBoundary (volume t.kind g iso None) (placed_mesh (volume t.kind g iso None) t).simplices
+  pub walks : length g.sizes ≡ 3 → IsLinkedByWalks (volume t.kind g iso None) (placed_mesh (volume t.kind g iso None) t).simplices
 
 -- the whole output of a command
 abbrev pub IsOutput : Option Files → List ℕ → Command → Type 0
-IsOutput files text (generate_command kind d) = ⊥
+IsOutput files text (generate_command kind d) = IsGenerated kind d text
 IsOutput files text (check_command table) = (t : Table) × HoldsAccepted files table t × (text ≡ accepted_line)
 IsOutput files text (extract_command table grid iso) = IsMeshText files table grid iso text
 IsOutput files text (demo_command kind d size seed) = ⊥
+
+-- ---- generated tables
+
+-- for a generated table the shelf is not touched, and the run ends with the whole output, with a fault of it, or without memory
+abbrev pub NeedsNoFile : {S : Type 0} → List (List ℕ) → Status → S → S → Type 0
+NeedsNoFile words status old new = (kind : Kind) (d : ℕ) → Say words (generate_command kind d) → IsOfPutting status × (new ≡ old)
 
 -- ---- the line
 

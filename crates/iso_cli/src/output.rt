@@ -1,13 +1,15 @@
 //! The output of each command.
 
-ghost use Rattle.std.specs.Prelude.{◌≡◌, ◌^◌, ◌≤◌, length, unsigned_abs};
+ghost use Rattle.std.specs.Prelude.{◌≡◌, ◌^◌, ◌≤◌, length, unsigned_abs, IfOk};
+ghost use Rattle.iso_model.specs.Cells.{HasDimension};
 ghost use Rattle.iso_model.specs.Values.{IsRegularGrid};
 ghost use Rattle.iso_cli.specs.Checked.{checked_in};
-ghost use Rattle.iso_cli.specs.Outputs.{LeavesOutput, accepted_line, placed_text};
+ghost use Rattle.iso_cli.specs.Outputs.{IsGenerated, LeavesOutput, accepted_line, placed_text};
 ghost use Rattle.iso_cli.specs.Statuses.{IsOfPutting};
 
 use crate::checked::CheckedTable;
 use crate::status::Status;
+use cell_lattice::{Cell, CubeCell, Kind, PyramidCell, SimplexCell};
 use grid_split::Split;
 use iso_base::{Memory, Sink, put_all};
 use mesh_extract::extract;
@@ -15,16 +17,63 @@ use nrrd_raw::Grid;
 use off_write::write_mesh;
 use std::alloc::Global;
 use table_check::Checked;
+use table_file::encode;
+use table_make::make;
 
 /// Puts the line for an accepted table.
 pub fn put_accepted<O: Sink>(out: &mut O) -> Status
     ensures kinds { IsOfPutting result }
     ensures output { LeavesOutput O.faults O.bytes (λ text. text ≡ accepted_line) result out.old out.new }
 {
-    match put_all(out, b"accepted\n") {
+    put_bytes(b"accepted\n", out)
+}
+
+// Puts these bytes.
+fn put_bytes<O: Sink>(bytes: &[u8], out: &mut O) -> Status
+    ensures kinds { IsOfPutting result }
+    ensures output { LeavesOutput O.faults O.bytes (λ text. text ≡ bytes.now) result out.old out.new }
+{
+    match put_all(out, bytes) {
         Ok(()) => Status::Done,
         Err(failed) => Status::WriteFault(failed.count),
     }
+}
+
+/// Puts the bytes of the table that the construction gives for a kind and a dimension.
+pub fn put_table<O: Sink>(alloc: Global, kind: Kind, dim: u8, out: &mut O) -> Status
+    requires fits { HasDimension kind dim }
+    ensures kinds { IsOfPutting result }
+    ensures output { LeavesOutput O.faults O.bytes (IsGenerated kind dim) result out.old out.new }
+{
+    match (kind, dim) {
+        (Kind::Cube, 2) => put_made::<CubeCell<2>, 2, O>(alloc, out),
+        (Kind::Cube, 3) => put_made::<CubeCell<3>, 3, O>(alloc, out),
+        (Kind::Cube, 4) => put_made::<CubeCell<4>, 4, O>(alloc, out),
+        (Kind::Simplex, 2) => put_made::<SimplexCell<2>, 2, O>(alloc, out),
+        (Kind::Simplex, 3) => put_made::<SimplexCell<3>, 3, O>(alloc, out),
+        (Kind::Simplex, 4) => put_made::<SimplexCell<4>, 4, O>(alloc, out),
+        (Kind::Pyramid, 3) => put_made::<PyramidCell, 3, O>(alloc, out),
+        _ => unreachable!(),
+    }
+}
+
+// The same, where the cell is known.
+fn put_made<C: Cell<D>, const D: usize, O: Sink>(alloc: Global, out: &mut O) -> Status
+    ensures kinds { IsOfPutting result }
+    ensures output { LeavesOutput O.faults O.bytes (IsGenerated C.KIND D) result out.old out.new }
+{
+    match made_bytes::<C, D>(alloc) {
+        Ok(bytes) => put_bytes(bytes.as_slice(), out),
+        Err(Memory) => Status::Memory,
+    }
+}
+
+// The bytes of the table of a cell.
+fn made_bytes<C: Cell<D>, const D: usize>(alloc: Global) -> Result<Vec<u8>, Memory>
+    ensures { IfOk result (λ bytes. IsGenerated C.KIND D bytes.items) }
+{
+    let table = make::<C, D>(alloc)?;
+    encode(alloc, &table)
 }
 
 /// Puts the text of the mesh of a grid, by a table of its dimension, at an isovalue.

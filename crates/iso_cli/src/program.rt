@@ -5,12 +5,12 @@ ghost use Rattle.iso_base.specs.Faults.{Rose};
 ghost use Rattle.iso_model.specs.Commands.{check_command, extract_command};
 ghost use Rattle.iso_words.specs.Built.{texts};
 ghost use Rattle.iso_cli.specs.Outputs.{LeavesOutput};
-ghost use Rattle.iso_cli.specs.Runs.{HoldNeeded, IsAnswerable, IsOutput, IsTrueAnswer, IsTrueOf, LacksFile, LeavesShelf, PutsLine, SayBuilt, ServesWell};
+ghost use Rattle.iso_cli.specs.Runs.{HoldNeeded, IsAnswerable, IsOutput, IsTrueAnswer, IsTrueOf, LacksFile, LeavesShelf, NeedsNoFile, PutsLine, SayBuilt, ServesWell};
 ghost use Rattle.iso_cli.specs.Statuses.{IsDoneOrMemory, IsUsage};
 
 use crate::files::{read_both, read_checked};
 use crate::line::status_text;
-use crate::output::{put_accepted, put_mesh};
+use crate::output::{put_accepted, put_mesh, put_table};
 use crate::status::Status;
 use iso_base::{Shelf, Sink, put_all};
 use iso_words::{Command, WrongWord, parse};
@@ -43,9 +43,12 @@ pub fn run<S: Shelf, O: Sink, E: Sink>(
 
     ensures shelf { LeavesShelf S.faults S.files S.sound (SayBuilt (texts words.now) (LacksFile (S.files shelf.old))) result shelf.old shelf.new }
     ensures output { LeavesOutput O.faults O.bytes (λ text. SayBuilt (texts words.now) (IsOutput (S.files shelf.old) text)) result out.old out.new }
+    // A table is generated without a file.
+    ensures generated { NeedsNoFile (texts words.now) result shelf.old shelf.new }
+
     ensures line { PutsLine E.faults E.bytes result err.old err.new }
 {
-    // By this law no table has a fault; it does nothing.
+    // By this law the bytes of a table have no fault; it does nothing.
     wrong_edge_law();
     let status = perform(alloc, words, shelf, out);
     if status != Status::Done {
@@ -60,8 +63,10 @@ fn perform<S: Shelf, O: Sink>(alloc: Global, words: &[String], shelf: &mut S, ou
     ensures answer { IsTrueAnswer (S.files shelf.old) (texts words.now) result }
     ensures shelf { LeavesShelf S.faults S.files S.sound (SayBuilt (texts words.now) (LacksFile (S.files shelf.old))) result shelf.old shelf.new }
     ensures output { LeavesOutput O.faults O.bytes (λ text. SayBuilt (texts words.now) (IsOutput (S.files shelf.old) text)) result out.old out.new }
+    ensures generated { NeedsNoFile (texts words.now) result shelf.old shelf.new }
 {
     match parse(words) {
+        Ok(Command::Generate { kind, dim }) => put_table(alloc, kind, dim, out),
         Ok(Command::Check { table }) => check(alloc, table, shelf, out),
         Ok(Command::Extract { table, grid, iso }) => extract(alloc, table, grid, iso, shelf, out),
         Err(WrongWord(place)) => Status::Usage(place),

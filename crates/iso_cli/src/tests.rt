@@ -6,6 +6,8 @@ use std::alloc::{AllocError, Global};
 use std::process::Abort;
 use std::test::Fail;
 
+mod generated;
+
 // The table of the square: its head, and a line for each label.
 #[rattlefmt::skip]
 const SQUARE: [u8; 112] = [
@@ -230,12 +232,20 @@ fn meshes_are_placed(rt: HostRuntime) -> Result<(), Fail> {
             "nOFF\n2\n2 1 0\n0.000000 0.000000\n0.000000 0.000000\n2 0 1\n",
         ),
         extracts(HEADER, &[9, 9, 9, 9], "nOFF\n2\n0 0 0\n"),
-        // one sample along an axis: no squares
+        // one sample along an axis: no squares, and no triangles
         extracts(
             "NRRD0001\ntype: uint8\ndimension: 2\nsizes: 1 7\nencoding: raw\n\n",
             &[0, 9, 0, 9, 0, 9, 0],
             "nOFF\n2\n0 0 0\n",
         ),
+        Case {
+            table: [&TRIANGLE, &[], &[]],
+            ..extracts(
+                "NRRD0001\ntype: uint8\ndimension: 2\nsizes: 1 7\nencoding: raw\n\n",
+                &[0, 9, 0, 9, 0, 9, 0],
+                "nOFF\n2\n0 0 0\n",
+            )
+        },
         Case {
             words: "extract table=table.tab grid=grid.nrrd iso=1",
             ..extracts(
@@ -287,6 +297,13 @@ fn refusals_put_their_line(rt: HostRuntime) -> Result<(), Fail> {
         ),
         refuses(
             "extract table=a grid=b",
+            HEADER,
+            &samples,
+            Status::Usage(4),
+            "usage: word 4\n",
+        ),
+        refuses(
+            "extract table=a grid=b iso=1099511627777",
             HEADER,
             &samples,
             Status::Usage(4),

@@ -4,6 +4,7 @@
 ghost use Rattle.std.specs.Prelude.{◌≡◌, ◌^◌, ◌<◌, ◌≤◌, None, length, IfOk, All, unsigned_abs};
 ghost use Rattle.iso_model.specs.Values.{IsRegularGrid, volume};
 ghost use Rattle.iso_model.specs.Faces.{IsMesh};
+ghost use Rattle.iso_model.specs.Isosurfaces.{IsIsosurface};
 ghost use Rattle.iso_model.specs.Placed.{placed_mesh};
 
 use grid_split::Split;
@@ -29,6 +30,7 @@ pub fn extract<C: Split<D>, const D: usize>(
     requires regular { IsRegularGrid grid.now }
     requires axes { length grid.now.sizes ≡ D }
     requires iso { unsigned_abs iso ≤ 2 ^ 40 }
+    ensures surface { IfOk result (IsIsosurface (volume C.KIND grid.now iso None)) }
     ensures mesh { IfOk result (λ mesh. mesh ≡ placed_mesh (volume C.KIND grid.now iso None) table.now) }
     ensures shape { IfOk result (IsMesh D) }
     ensures vertices { IfOk result (λ mesh. All (All (λ number. number < length mesh.vertices)) mesh.simplices) }
