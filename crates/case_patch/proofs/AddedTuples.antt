@@ -2,15 +2,8 @@
 use Rattle.std.specs.Prelude.{◌≡◌, ◌↔◌, ◌⊎◌, ◌<◌, ℕ, suc, List, [], ◌∷◌, ◌++◌, map, length, slice_index, Contains}
 use Rattle.std.proofs.Common.{refl, sym, ◌∙◌, subst, arith, inl, inr}
 use Rattle.std.proofs.lemmas.List.Elements.{Contains-append_left, Contains-push, Contains-push_cases}
-use Rattle.iso_model.proofs.FaceLaws.{Contains-head, Contains-tail, Contains-split}
 use Rattle.case_patch.specs.Tuples.{Adds, IsNamed}
-
-pub contains_mapped : {X Y : Type 0} (f : X → Y) (xs : List X) (x : X) → Contains xs x → Contains (map f xs) (f x)
-contains_mapped f [] x c = absurd (let h : c.0 < 0 = c.1 in omega arith)
-contains_mapped {X} {Y} f (y ∷ xs) x c = elim (Contains-split x y xs c) as (λ _. Contains (f y ∷ map f xs) (f x)) [
-  | inl e ↦ subst (λ (z : X). Contains (f y ∷ map f xs) (f z)) e (Contains-head (f y) (map f xs))
-  | inr m ↦ Contains-tail (f x) (f y) (map f xs) (contains_mapped f xs x m)
-]
+use Rattle.lists.proofs.Contained.{Contains-head, Contains-tail, Contains-split}
 
 pub adds_none : (P : List ℕ → Type 0) (old : List (List ℕ)) → ((t : List ℕ) → P t → ⊥) → Adds P old old
 adds_none P old never = record {
@@ -30,19 +23,6 @@ adds_same P Q old new same a = record {
 
 -- ---- one tuple more
 
-pub adds_named : (es simplex tuple : List ℕ) (old new : List (List ℕ)) → IsNamed es simplex tuple → new ≡ old ++ tuple ∷ [] → Adds (IsNamed es simplex) old new
-adds_named es simplex tuple old new n e = subst (Adds (IsNamed es simplex) old) (sym e) (record { each = λ t. (λ c. there t c, λ c. back t c) })
-  where
-    there : (t : List ℕ) → Contains (old ++ tuple ∷ []) t → Contains old t ⊎ IsNamed es simplex t
-    there t c = elim (Contains-push_cases old tuple t c) as (λ _. Contains old t ⊎ IsNamed es simplex t) [
-      | inl o ↦ inl o
-      | inr s ↦ inr (subst (IsNamed es simplex) s n)
-    ]
-
-    back : (t : List ℕ) → Contains old t ⊎ IsNamed es simplex t → Contains (old ++ tuple ∷ []) t
-    back t (inl o) = Contains-append_left old (tuple ∷ []) t o
-    back t (inr m) = subst (Contains (old ++ tuple ∷ [])) (n.1 ∙ sym m.1) (Contains-push old tuple)
-
 -- ---- what each member of a list adds
 
 abbrev pub OfSome : {X : Type 0} → (X → List ℕ → Type 0) → List X → List ℕ → Type 0
@@ -51,7 +31,8 @@ OfSome {X} Q xs t = (x : X) × Contains xs x × Q x t
 pub of_none : {X : Type 0} (Q : X → List ℕ → Type 0) (old : List (List ℕ)) → Adds (OfSome Q []) old old
 of_none Q old = adds_none (OfSome Q []) old (λ t p. let h : p.1.0 < 0 = p.1.1 in omega arith)
 
-pub of_more : {X : Type 0} (Q : X → List ℕ → Type 0) (xs : List X) (x : X) (old mid new : List (List ℕ)) → Adds (OfSome Q xs) old mid → Adds (Q x) mid new → Adds (OfSome Q (xs ++ x ∷ [])) old new
+pub of_more : {X : Type 0} (Q : X → List ℕ → Type 0) (xs : List X) (x : X) (old mid new : List (List ℕ)) → Adds (OfSome Q xs) old mid
+    → Adds (Q x) mid new → Adds (OfSome Q (xs ++ x ∷ [])) old new
 of_more {X} Q xs x old mid new a b = record { each = λ t. (λ c. there t ((b.each t).0 c), λ c. back t c) }
   where
     there : (t : List ℕ) → Contains mid t ⊎ Q x t → Contains old t ⊎ OfSome Q (xs ++ x ∷ []) t
@@ -69,12 +50,3 @@ of_more {X} Q xs x old mid new a b = record { each = λ t. (λ c. there t ((b.ea
     ]
 
 -- ---- a list that is f of another, place by place
-
-pub mapped_from : (f : ℕ → ℕ) (xs ys : List ℕ) → length ys ≡ length xs → ((k : ℕ) → k < length xs → slice_index ys k ≡ f (slice_index xs k)) → ys ≡ map f xs
-mapped_from f [] [] l h = refl
-mapped_from f [] (y ∷ ys) l h = absurd (omega arith)
-mapped_from f (x ∷ xs) [] l h = absurd (omega arith)
-mapped_from f (x ∷ xs) (y ∷ ys) l h =
-    let a : y ≡ f x = h 0 (omega arith) in
-    let b = mapped_from f xs ys (omega arith) (λ k p. h (suc k) (omega arith)) in
-    cc

@@ -2,17 +2,17 @@
 use Rattle.std.specs.Prelude.{◌≡◌, ◌↔◌, ◌≤◌, ◌<◌, ◌==◌, ℕ, ℤ, Bool, true, false, List, map, filter, length, Contains}
 use Rattle.std.proofs.Common.{refl, sym, ap, ◌∙◌, subst}
 use Rattle.std.proofs.lemmas.Nat.Bits.{bit_at_above}
-use Rattle.iso_model.specs.Orders.{numbers}
-use Rattle.iso_model.specs.Hulls.{IsFacet, set_number}
-use Rattle.iso_model.proofs.BipolarLaws.{Contains-map}
+use Rattle.lists.specs.Orders.{numbers}
+use Rattle.iso_model.specs.Hulls.{IsFacet}
 use Rattle.halfspace.specs.Choices.{AreFacetNumbers}
 use Rattle.halfspace.proofs.FoundSets.{digit, bit_of_number}
-use Rattle.halfspace.proofs.SetNumbers.{set_number-below}
+use Rattle.halfspace.proofs.TightNumbers.{set_number-below}
 use Rattle.pulling_tri.specs.PointSets.{point_set}
 use Rattle.pulling_tri.proofs.Callers.{points-are}
 use Rattle.pulling_tri.proofs.ChainLaws.{Ascends, filter_ascends}
 use Rattle.pulling_tri.proofs.SetBits.{range_ascends}
-use Rattle.case_patch.proofs.AddedTuples.{contains_mapped}
+use Rattle.lists.specs.Bits.{set_number}
+use Rattle.lists.proofs.Contained.{from_Contains-map, Contains-mapped}
 
 digit_test : (b : Bool) → (digit b == 1) ≡ b
 digit_test true = refl
@@ -37,25 +37,30 @@ pub record IsNumberOf (d : ℕ) (points : List (List ℤ)) (number : ℕ) : Type
   pub is : number ≡ set_number set
   pub shown : point_set number ≡ set
 
-pub number_facet : (d : ℕ) (points : List (List ℤ)) (found : List ℕ) (number : ℕ) → length points ≤ 64 → AreFacetNumbers d points found → Contains found number → IsNumberOf d points number
+pub number_facet : (d : ℕ) (points : List (List ℤ)) (found : List ℕ) (number : ℕ) → length points ≤ 64 → AreFacetNumbers d points found
+    → Contains found number → IsNumberOf d points number
 number_facet d points found number h are c =
-    let m = Contains-map set_number are.sets number (subst (λ (xs : List ℕ). Contains xs number) are.numbered c) in
+    let m = from_Contains-map set_number are.sets number (subst (λ (xs : List ℕ). Contains xs number) are.numbered c) in
     let f = (are.facets.each m.0).0 m.1 in
     record { set = m.0; facet = f; is = sym m.2; shown = ap point_set (sym m.2) ∙ facet_set d points m.0 h f }
 
-pub facet_number : (d : ℕ) (points : List (List ℤ)) (found : List ℕ) (set : List ℕ) → AreFacetNumbers d points found → IsFacet d points set → Contains found (set_number set)
+pub facet_number : (d : ℕ) (points : List (List ℤ)) (found : List ℕ) (set : List ℕ) → AreFacetNumbers d points found → IsFacet d points set
+    → Contains found (set_number set)
 facet_number d points found set are f =
-    subst (λ (xs : List ℕ). Contains xs (set_number set)) (sym are.numbered) (contains_mapped set_number are.sets set ((are.facets.each set).1 f))
+    subst (λ (xs : List ℕ). Contains xs (set_number set)) (sym are.numbered) (Contains-mapped set_number are.sets set ((are.facets.each set).1 f))
 
 -- the sets of these numbers are the facets
-pub facets_same : (d : ℕ) (points : List (List ℤ)) (found : List ℕ) → length points ≤ 64 → AreFacetNumbers d points found → (set : List ℕ) → Contains (map point_set found) set ↔ IsFacet d points set
+pub facets_same : (d : ℕ) (points : List (List ℤ)) (found : List ℕ) → length points ≤ 64 → AreFacetNumbers d points found → (set : List ℕ)
+    → Contains (map point_set found) set ↔ IsFacet d points set
 facets_same d points found h are set = (λ c. there c, λ f. back f)
   where
     there : Contains (map point_set found) set → IsFacet d points set
     there c =
-        let m = Contains-map point_set found set c in
+        let m = from_Contains-map point_set found set c in
         let n = number_facet d points found m.0 h are m.1 in
         subst (IsFacet d points) (sym n.shown ∙ m.2) n.facet
 
     back : IsFacet d points set → Contains (map point_set found) set
-    back f = subst (Contains (map point_set found)) (facet_set d points set h f) (contains_mapped point_set found (set_number set) (facet_number d points found set are f))
+    back f =
+        subst (Contains (map point_set found)) (facet_set d points set h f)
+            (Contains-mapped point_set found (set_number set) (facet_number d points found set are f))

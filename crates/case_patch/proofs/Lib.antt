@@ -6,7 +6,7 @@ pub mod PulledSame
 pub mod AddedTuples
 pub mod OrderedTuples
 pub mod PulledTuples
-pub mod Rows
-pub mod Lists
+pub mod SideTurnRows
+pub mod AppendedLists
 pub mod Narrow
 pub mod FacetMembers

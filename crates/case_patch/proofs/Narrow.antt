@@ -4,12 +4,13 @@ use Rattle.std.proofs.Common.{ap, ◌∙◌, arith, w32, to_z, of_z}
 use Rattle.std.proofs.lemmas.Int.{to_z-of_z}
 use Rattle.polynomials.specs.Small.{IsSmall}
 use Rattle.polynomials.proofs.SmallLaws.{small-fits_narrow, small-sub}
-use Rattle.cell_lattice.specs.Dimensions.{IsDimension, in_each_dimension}
+use Rattle.iso_model.specs.Dimensions.{IsDimension, in_each_dimension}
 
 narrow_back : (n : ℕ) (x : ℤ) → n < 2 ^ 31 → IsSmall n x → to_z w32 (of_z w32 x) ≡ x
 narrow_back n x q h = to_z-of_z w32 x (small-fits_narrow n x h q)
 
-pub narrow_difference : (m n : ℕ) (x y : ℤ) → m + n < 2 ^ 31 → IsSmall m x → IsSmall n y → to_z w32 (of_z w32 (to_z w32 (of_z w32 x) -ℤ to_z w32 (of_z w32 y))) ≡ x -ℤ y
+pub narrow_difference : (m n : ℕ) (x y : ℤ) → m + n < 2 ^ 31 → IsSmall m x → IsSmall n y
+    → to_z w32 (of_z w32 (to_z w32 (of_z w32 x) -ℤ to_z w32 (of_z w32 y))) ≡ x -ℤ y
 narrow_difference m n x y f p q =
     ap (λ (z : ℤ). to_z w32 (of_z w32 (z -ℤ to_z w32 (of_z w32 y)))) (narrow_back m x (omega arith) p)
     ∙ ap (λ (z : ℤ). to_z w32 (of_z w32 (x -ℤ z))) (narrow_back n y (omega arith) q)

@@ -1,5 +1,6 @@
 -- A set is off the cell's boundary where its number lies within none of those of the points in the cell's facets.
-use Rattle.std.specs.Prelude.{◌≡◌, ◌+◌, ◌≤◌, ◌<◌, ◌^◌, ◌==◌, ◌&&◌, ◌||◌, ℕ, Bool, true, false, not, List, [], ◌∷◌, map, filter, length, All, Contains, bit_and, if◌then◌else◌}
+use Rattle.std.specs.Prelude.{◌≡◌, ◌+◌, ◌≤◌, ◌<◌, ◌^◌, ◌==◌, ◌&&◌, ◌||◌, ℕ, Bool, true, false, not, List, [], ◌∷◌, map, filter, length, All, Contains}
+use Rattle.std.specs.Prelude.{bit_and, if◌then◌else◌}
 use Rattle.std.specs.List.{list_all, list_any}
 use Rattle.std.proofs.Common.{refl, sym, ap, ◌∙◌, subst, arith}
 use Rattle.std.proofs.lemmas.Bool.{false≢true}
@@ -8,22 +9,18 @@ use Rattle.std.proofs.lemmas.List.Folds.{list_all-map}
 use Rattle.std.proofs.lemmas.List.Sums.{list_all-from_AllPass}
 use Rattle.std.proofs.Math.Pow.{pow_mono}
 use Rattle.iso_model.specs.declared.Kind.{Kind}
-use Rattle.iso_model.specs.Orders.{numbers, has}
+use Rattle.lists.specs.Orders.{numbers, has}
 use Rattle.iso_model.specs.Cells.{facet_count}
-use Rattle.iso_model.specs.Hulls.{set_number, LiesWithin}
+use Rattle.iso_model.specs.Hulls.{LiesWithin}
 use Rattle.iso_model.specs.Entries.{label_edges, label_corners, is_off_boundary}
-use Rattle.iso_model.proofs.Deciding.{below_contained, of_equal, equal_of}
-use Rattle.iso_model.proofs.FaceLaws.{Contains-filter, Contains-head, Contains-tail}
-use Rattle.halfspace.proofs.SetNumbers.{set_number-below, has_test, has_passing}
+use Rattle.halfspace.proofs.TightNumbers.{set_number-below, has_test, has_passing}
 use Rattle.pulling_tri.specs.PointSets.{point_set}
 use Rattle.pulling_tri.proofs.PointSetLaws.{points-within, within-points}
 use Rattle.case_patch.specs.BoundarySets.{is_in_facet, is_off}
 use Rattle.case_patch.proofs.FacetSets.{tested_set}
-
-same_tests : (a b : Bool) → (a ≡ true → b ≡ true) → (b ≡ true → a ≡ true) → a ≡ b
-same_tests true b f g = sym (f refl)
-same_tests false true f g = g refl
-same_tests false false f g = refl
+use Rattle.lists.specs.Bits.{set_number}
+use Rattle.lists.proofs.Tests.{same_tests, equal_of, of_equal}
+use Rattle.lists.proofs.Contained.{Contains-head, Contains-tail, Contains-filter, below_contained}
 
 -- ---- lists of which each member passes
 
@@ -59,7 +56,9 @@ has_is_test : (q : ℕ → Bool) (n i : ℕ) → i < n → has (filter q (number
 has_is_test q n i h = same_tests (has (filter q (numbers n)) i) (q i) (λ e. has_test q n i e) (λ e. has_passing q n i h e)
 
 within_test : (p q : ℕ → Bool) (n : ℕ) → list_all (has (filter q (numbers n))) (filter p (numbers n)) ≡ list_all q (filter p (numbers n))
-within_test p q n = all_same (has (filter q (numbers n))) q (filter p (numbers n)) (λ i c. has_is_test q n i (below_contained n i (Contains-filter p (numbers n) i c)))
+within_test p q n =
+    all_same (has (filter q (numbers n))) q (filter p (numbers n))
+        (λ i c. has_is_test q n i (below_contained n i (Contains-filter p (numbers n) i c)))
 
 number_small : (p : ℕ → Bool) (n : ℕ) → n ≤ 64 → set_number (filter p (numbers n)) < 2 ^ 64
 number_small p n h = let l = set_number-below p n in let k : 2 ^ n ≤ 2 ^ 64 = pow_mono h in omega arith
@@ -69,7 +68,8 @@ pub within_is : (p q : ℕ → Bool) (n : ℕ) → n ≤ 64
     → (bit_and (set_number (filter p (numbers n))) (set_number (filter q (numbers n))) == set_number (filter p (numbers n))) ≡ list_all q (filter p (numbers n))
 within_is p q n h = same_tests _ _ (λ e. there (equal_of _ _ e)) (λ e. of_equal _ _ (back e))
   where
-    there : bit_and (set_number (filter p (numbers n))) (set_number (filter q (numbers n))) ≡ set_number (filter p (numbers n)) → list_all q (filter p (numbers n)) ≡ true
+    there : bit_and (set_number (filter p (numbers n))) (set_number (filter q (numbers n))) ≡ set_number (filter p (numbers n))
+        → list_all q (filter p (numbers n)) ≡ true
     there e =
         let w = points-within (set_number (filter p (numbers n))) (set_number (filter q (numbers n))) e in
         let l : LiesWithin (filter p (numbers n)) (filter q (numbers n)) =
@@ -77,9 +77,11 @@ within_is p q n h = same_tests _ _ (λ e. there (equal_of _ _ e)) (λ e. of_equa
         (subst (λ (s : List ℕ). LiesWithin (point_set (set_number (filter p (numbers n)))) s) (tested_set q n h) w) in
         sym (within_test p q n) ∙ kept_all (has (filter q (numbers n))) (filter p (numbers n)) l
 
-    back : list_all q (filter p (numbers n)) ≡ true → bit_and (set_number (filter p (numbers n))) (set_number (filter q (numbers n))) ≡ set_number (filter p (numbers n))
+    back : list_all q (filter p (numbers n)) ≡ true
+        → bit_and (set_number (filter p (numbers n))) (set_number (filter q (numbers n))) ≡ set_number (filter p (numbers n))
     back e =
-        let l : LiesWithin (filter p (numbers n)) (filter q (numbers n)) = all_kept (has (filter q (numbers n))) (filter p (numbers n)) (within_test p q n ∙ e) in
+        let l : LiesWithin (filter p (numbers n)) (filter q (numbers n)) =
+            all_kept (has (filter q (numbers n))) (filter p (numbers n)) (within_test p q n ∙ e) in
         within-points (set_number (filter p (numbers n))) (set_number (filter q (numbers n))) (number_small p n h)
         (subst (λ (s : List ℕ). LiesWithin s (point_set (set_number (filter q (numbers n))))) (sym (tested_set p n h))
         (subst (λ (s : List ℕ). LiesWithin (filter p (numbers n)) s) (sym (tested_set q n h)) l))
@@ -88,7 +90,11 @@ within_is p q n h = same_tests _ _ (λ e. there (equal_of _ _ e)) (λ e. of_equa
 
 abbrev pub boundary_of : Kind → ℕ → ℕ → List ℕ
 boundary_of kind d label =
-    map (λ f. set_number (filter (is_in_facet kind d (label_edges kind d label) (label_corners kind d label) f) (numbers (length (label_edges kind d label) + length (label_corners kind d label)))))
+    map
+        (λ f.
+             set_number
+                 (filter (is_in_facet kind d (label_edges kind d label) (label_corners kind d label) f)
+                      (numbers (length (label_edges kind d label) + length (label_corners kind d label)))))
     (numbers (facet_count kind d))
 
 pub boundary_is : (kind : Kind) (d label n : ℕ) (es ks sets : List ℕ) → es ≡ label_edges kind d label → ks ≡ label_corners kind d label → n ≡ facet_count kind d
@@ -96,15 +102,34 @@ pub boundary_is : (kind : Kind) (d label n : ℕ) (es ks sets : List ℕ) → es
 boundary_is kind d label n es ks sets e k m s =
     s
     ∙ ap (λ (xs : List ℕ). map (λ f. set_number (filter (is_in_facet kind d xs ks f) (numbers (length xs + length ks)))) (numbers n)) e
-    ∙ ap (λ (xs : List ℕ). map (λ f. set_number (filter (is_in_facet kind d (label_edges kind d label) xs f) (numbers (length (label_edges kind d label) + length xs)))) (numbers n)) k
-    ∙ ap (λ (c : ℕ). map (λ f. set_number (filter (is_in_facet kind d (label_edges kind d label) (label_corners kind d label) f) (numbers (length (label_edges kind d label) + length (label_corners kind d label))))) (numbers c)) m
+    ∙ ap
+        (λ (xs : List ℕ).
+             map
+                 (λ f.
+                      set_number
+                          (filter (is_in_facet kind d (label_edges kind d label) xs f) (numbers (length (label_edges kind d label) + length xs))))
+                 (numbers n))
+        k
+    ∙ ap
+        (λ (c : ℕ).
+             map
+                 (λ f.
+                      set_number
+                          (filter (is_in_facet kind d (label_edges kind d label) (label_corners kind d label) f)
+                               (numbers (length (label_edges kind d label) + length (label_corners kind d label)))))
+                 (numbers c))
+        m
 
 -- over sets that are given by tests on the numbers below n
 off_by_tests : (p : ℕ → Bool) (inside : ℕ → ℕ → Bool) (n m : ℕ) → n ≤ 64
-    → is_off (set_number (filter p (numbers n))) (map (λ f. set_number (filter (inside f) (numbers n))) (numbers m)) ≡ not (list_any (λ f. list_all (inside f) (filter p (numbers n))) (numbers m))
+    → is_off (set_number (filter p (numbers n))) (map (λ f. set_number (filter (inside f) (numbers n))) (numbers m))
+        ≡ not (list_any (λ f. list_all (inside f) (filter p (numbers n))) (numbers m))
 off_by_tests p inside n m h =
-    list_all-map (λ other. not (bit_and (set_number (filter p (numbers n))) other == set_number (filter p (numbers n)))) (λ f. set_number (filter (inside f) (numbers n))) (numbers m)
-    ∙ all_same (λ f. not (bit_and (set_number (filter p (numbers n))) (set_number (filter (inside f) (numbers n))) == set_number (filter p (numbers n)))) (λ f. not (list_all (inside f) (filter p (numbers n)))) (numbers m)
+    list_all-map (λ other. not (bit_and (set_number (filter p (numbers n))) other == set_number (filter p (numbers n))))
+        (λ f. set_number (filter (inside f) (numbers n))) (numbers m)
+    ∙ all_same
+        (λ f. not (bit_and (set_number (filter p (numbers n))) (set_number (filter (inside f) (numbers n))) == set_number (filter p (numbers n))))
+        (λ f. not (list_all (inside f) (filter p (numbers n)))) (numbers m)
     (λ f c. ap not (within_is p (inside f) n h))
     ∙ not_any (λ f. list_all (inside f) (filter p (numbers n))) (numbers m)
 
@@ -112,4 +137,5 @@ pub off_is : (kind : Kind) (d label : ℕ) (p : ℕ → Bool) → length (label_
     → is_off (set_number (filter p (numbers (length (label_edges kind d label) + length (label_corners kind d label))))) (boundary_of kind d label)
     ≡ is_off_boundary kind d label (filter p (numbers (length (label_edges kind d label) + length (label_corners kind d label))))
 off_is kind d label p h =
-    off_by_tests p (is_in_facet kind d (label_edges kind d label) (label_corners kind d label)) (length (label_edges kind d label) + length (label_corners kind d label)) (facet_count kind d) h
+    off_by_tests p (is_in_facet kind d (label_edges kind d label) (label_corners kind d label))
+        (length (label_edges kind d label) + length (label_corners kind d label)) (facet_count kind d) h

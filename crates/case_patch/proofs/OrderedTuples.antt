@@ -11,37 +11,20 @@ use Rattle.std.proofs.lemmas.List.Elements.{All-from_recursion, All-contains}
 use Rattle.std.proofs.lemmas.List.Kept.{Contains-dedup, Contains-from_dedup, IsStrictlySortedBy-dedup}
 use Rattle.std.proofs.lemmas.List.Sorted.{Contains-permutation, IsPermutation-sym}
 use Rattle.std.proofs.lemmas.Slice.Eq.{bytes_eq-Decides}
-use Rattle.iso_model.specs.Orders.{comes_before}
-use Rattle.iso_model.proofs.FaceLaws.{Contains-head, Contains-tail}
-use Rattle.iso_model.proofs.FixedLists.{AscendsBy, ascends_by_steps}
+use Rattle.lists.specs.Orders.{comes_before}
 use Rattle.case_patch.specs.Tuples.{IsOrdered}
+use Rattle.lists.specs.Members.{AscendsBy}
+use Rattle.lists.proofs.Contained.{Contains-head, Contains-tail}
+use Rattle.lists.proofs.Orderings.{ascends_by_steps, before_from_less, ascends_from}
 
-before_from_less : (x y : List ℕ) → length x ≡ length y → slice_cmp nat_cmp x y ≡ Less → comes_before x y ≡ true
-before_from_less [] [] l e = absurd (cc)
-before_from_less [] (b ∷ y) l e = absurd (omega arith)
-before_from_less (a ∷ x) [] l e = absurd (omega arith)
-before_from_less (a ∷ x) (b ∷ y) l e = by_tests (nat_lt a b) (a == b) (λ f. before_from_less x y (omega arith) f) e
-  where
-    by_tests : (p q : Bool) → (slice_cmp nat_cmp x y ≡ Less → comes_before x y ≡ true) → ordering_then (cond p Less (cond q Equal Greater)) (slice_cmp nat_cmp x y) ≡ Less
-        → (p || (q && comes_before x y)) ≡ true
-    by_tests true q behind f = refl
-    by_tests false true behind f = behind f
-    by_tests false false behind f = absurd (cc)
-
-ascends_from : (d : ℕ) (xs : List (List ℕ)) → ((x : List ℕ) → Contains xs x → length x ≡ d) → IsStrictlySortedBy (slice_cmp nat_cmp) xs → AscendsBy (λ (v w : List ℕ). IsTrue (comes_before v w)) xs
-unfolding IsStrictlySortedBy
-ascends_from d [] wide s = tt
-ascends_from d (x ∷ xs) wide s = (
-  λ y c. before_from_less x y (wide x (Contains-head x xs) ∙ sym (wide y (Contains-tail y x xs c)))
-      (All-contains (λ (z : List ℕ). slice_cmp nat_cmp x z ≡ Less) xs y (All-from_recursion (λ (z : List ℕ). slice_cmp nat_cmp x z ≡ Less) xs s.0) c),
-  ascends_from d xs (λ y c. wide y (Contains-tail y x xs c)) s.1,
-)
-
-pub ordered_list : (d : ℕ) (old moved kept : List (List ℕ)) → ((t : List ℕ) → Contains old t → length t ≡ d) → IsPermutation old moved → IsSorted (slice_cmp nat_cmp) moved
+pub ordered_list : (d : ℕ) (old moved kept : List (List ℕ)) → ((t : List ℕ) → Contains old t → length t ≡ d) → IsPermutation old moved
+    → IsSorted (slice_cmp nat_cmp) moved
     → kept ≡ dedup (pointwise nat_eq) moved → IsOrdered old kept
 ordered_list d old moved kept wide p s k = record {
   same = λ t. (λ c. there t (subst (λ (xs : List (List ℕ)). Contains xs t) k c), λ c. back t c);
-  ascending = ascends_by_steps (λ (v w : List ℕ). IsTrue (comes_before v w)) kept (subst (AscendsBy (λ (v w : List ℕ). IsTrue (comes_before v w))) (sym k) rises);
+  ascending =
+      ascends_by_steps (λ (v w : List ℕ). IsTrue (comes_before v w)) kept
+          (subst (AscendsBy (λ (v w : List ℕ). IsTrue (comes_before v w))) (sym k) rises);
 }
   where
     there : (t : List ℕ) → Contains (dedup (pointwise nat_eq) moved) t → Contains old t

@@ -11,7 +11,8 @@ face_same F G same set face f = record {
   maximal = λ other p w. f.maximal other (proper_same G F (λ s. ((same s).1, (same s).0)) set other p) w;
 }
 
-chain_same : (F G : List ℕ → Type 0) → ((s : List ℕ) → F s ↔ G s) → (d : ℕ) (facet : List ℕ) (chain : List (List ℕ)) → IsChain F d facet chain → IsChain G d facet chain
+chain_same : (F G : List ℕ → Type 0) → ((s : List ℕ) → F s ↔ G s) → (d : ℕ) (facet : List ℕ) (chain : List (List ℕ)) → IsChain F d facet chain
+    → IsChain G d facet chain
 chain_same F G same d facet chain c = record {
   sets = c.sets;
   top = c.top;
@@ -19,5 +20,6 @@ chain_same F G same d facet chain c = record {
   down = λ k e h. (face_same F G same _ _ (c.down k e h).0, (c.down k e h).1);
 }
 
-pub pulled_too : (F G : List ℕ → Type 0) → ((s : List ℕ) → F s ↔ G s) → (d : ℕ) (facet simplex : List ℕ) → IsPulled F d facet simplex → IsPulled G d facet simplex
+pub pulled_too : (F G : List ℕ → Type 0) → ((s : List ℕ) → F s ↔ G s) → (d : ℕ) (facet simplex : List ℕ) → IsPulled F d facet simplex
+    → IsPulled G d facet simplex
 pulled_too F G same d facet simplex p = (p.0, chain_same F G same d facet p.0 p.1, p.2)

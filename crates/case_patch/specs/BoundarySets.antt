@@ -6,7 +6,8 @@ use Rattle.iso_model.specs.Cells.{edge_in_facet, corner_in_facet}
 
 -- the point of this number lies in facet f of the cell: a midpoint where its edge does, and else where its corner does
 abbrev pub is_in_facet : Kind → ℕ → List ℕ → List ℕ → ℕ → ℕ → Bool
-is_in_facet kind d es ks f i = if nat_lt i (length es) then edge_in_facet kind d f (slice_index es i) else corner_in_facet kind f (slice_index ks (i - length es))
+is_in_facet kind d es ks f i =
+    if nat_lt i (length es) then edge_in_facet kind d f (slice_index es i) else corner_in_facet kind f (slice_index ks (i - length es))
 
 -- a set of points lies within none of the others, where sets are written as numbers
 abbrev pub is_off : ℕ → List ℕ → Bool

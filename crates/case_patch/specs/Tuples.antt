@@ -1,7 +1,7 @@
 -- Lists of tuples of edges, as they grow facet by facet.
 use Rattle.std.specs.Prelude.{◌≡◌, ◌↔◌, ◌⊎◌, ℕ, ◌<◌, true, List, map, length, slice_index, All, Contains, IsTrue}
 use Rattle.std.specs.List.{AllAdjacentBelow}
-use Rattle.iso_model.specs.Orders.{comes_before}
+use Rattle.lists.specs.Orders.{comes_before}
 use Rattle.iso_model.specs.Hulls.{IsPulled}
 use Rattle.pulling_tri.specs.PointSets.{point_set}
 use Rattle.case_patch.specs.BoundarySets.{is_off}

@@ -3,10 +3,9 @@
 //! Points are given by the edges of the midpoints and the corners that follow them.
 
 ghost use Rattle.std.specs.Prelude.{◌≡◌, ◌+◌, ◌-◌, ◌<◌, ◌≤◌, ◌++◌, ◌∷◌, [], nat_lt, if◌then◌else◌, All, IfOk, OnOk, length, map, filter, slice_index};
-ghost use Rattle.iso_model.specs.Orders.{numbers};
-ghost use Rattle.iso_model.specs.Cells.{is_set};
-ghost use Rattle.iso_model.specs.Hulls.{set_number};
+ghost use Rattle.lists.specs.Orders.{numbers};
 ghost use Rattle.case_patch.specs.BoundarySets.{is_in_facet, is_off};
+ghost use Rattle.lists.specs.Bits.{is_set, set_number};
 
 use cell_lattice::Cell;
 use edge_sets::has_member;

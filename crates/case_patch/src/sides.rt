@@ -1,13 +1,14 @@
 //! The side of a simplex, and its orientation.
 
-ghost use Rattle.std.specs.Prelude.{◌≡◌, ◌⊎◌, ◌<◌, All, map, slice_index};
+ghost use Rattle.std.specs.Prelude.{◌≡◌, ◌<◌, All, map, slice_index};
 ghost use Rattle.polynomials.specs.Small.{AreSmall};
-ghost use Rattle.iso_model.specs.Orders.{exchange_last};
+ghost use Rattle.lists.specs.Orders.{exchange_last};
 ghost use Rattle.iso_model.specs.Cells.{edge_midpoint};
 ghost use Rattle.iso_model.specs.Turns.{minus, side_rows as side_rows_of};
 ghost use Rattle.iso_model.specs.Acceptance.{side_turn};
 ghost use Rattle.iso_model.specs.Entries.{oriented as oriented_of};
 ghost use Rattle.case_patch.specs.SideRows.{side_row, direction};
+ghost use Rattle.iso_model.specs.Dimensions.{IsDimension};
 
 use cell_lattice::Cell;
 use edge_sets::has_member;
@@ -79,7 +80,7 @@ fn side<C: Cell<D>, const D: usize>(label: u32, tuple: &[u8; D]) -> i64
 
 // The last two places are exchanged.
 fn exchanged<const D: usize>(tuple: &[u8; D]) -> [u8; D]
-    requires { (D ≡ 2) ⊎ ((D ≡ 3) ⊎ (D ≡ 4)) }
+    requires { IsDimension D }
     ensures { result ≡ exchange_last tuple.now }
 {
     let mut other = *tuple;

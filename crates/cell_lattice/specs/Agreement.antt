@@ -3,8 +3,8 @@ use Rattle.std.specs.Prelude.{◌≡◌, ℕ, ◌<◌, List, [], ◌∷◌, map,
 use Rattle.std.proofs.Common.{ap, sym, ◌∙◌, arith, get_or}
 use Rattle.std.proofs.lemmas.List.FromFn.{get_or-map-range_with_len}
 use Rattle.std.proofs.lemmas.List.Elements.{All-nil, All-cons}
-use Rattle.iso_model.specs.Orders.{numbers}
-use Rattle.cell_lattice.specs.Dimensions.{IsDimension, in_each_dimension}
+use Rattle.lists.specs.Orders.{numbers}
+use Rattle.iso_model.specs.Dimensions.{IsDimension, in_each_dimension}
 
 pub agree : {X : Type 0} → (n : ℕ) (f g : ℕ → X) → map f (numbers n) ≡ map g (numbers n) → (k : ℕ) → k < n → f k ≡ g k
 agree {X} n f g same k below =
@@ -14,7 +14,8 @@ agree {X} n f g same k below =
 
 -- the same in each dimension d, over the numbers below n d
 pub agree_in_each : {X : Type 0} → (n : ℕ → ℕ) (f g : ℕ → ℕ → X) →
-    map (f 2) (numbers (n 2)) ≡ map (g 2) (numbers (n 2)) → map (f 3) (numbers (n 3)) ≡ map (g 3) (numbers (n 3)) → map (f 4) (numbers (n 4)) ≡ map (g 4) (numbers (n 4)) →
+    map (f 2) (numbers (n 2)) ≡ map (g 2) (numbers (n 2)) → map (f 3) (numbers (n 3)) ≡ map (g 3) (numbers (n 3))
+    → map (f 4) (numbers (n 4)) ≡ map (g 4) (numbers (n 4)) →
     (d : ℕ) → IsDimension d → (k : ℕ) → k < n d → f d k ≡ g d k
 agree_in_each n f g two three four =
     in_each_dimension (λ d. (k : ℕ) → k < n d → f d k ≡ g d k) (agree (n 2) (f 2) (g 2) two) (agree (n 3) (f 3) (g 3) three) (agree (n 4) (f 4) (g 4) four)

@@ -1,5 +1,5 @@
-pub mod Dimensions
 pub mod Agreement
 pub mod SeamTables
 pub mod Coordinates
 pub mod CellLemmas
+pub mod FacetSets

@@ -1,11 +1,12 @@
 ghost use Rattle.std.specs.Prelude.{◌≡◌, ℕ, ◌+◌, ◌-◌, ◌*◌, ◌/◌, ◌^◌, ◌<◌, ◌≤◌, length, map, slice_index, pos, refl};
 ghost use Rattle.std.proofs.Common.{inl, inr, rules};
 ghost use Rattle.iso_model.specs.declared.Kind.{Kind};
-ghost use Rattle.iso_model.specs.Cells.{corner_count, edge_count, facet_count, corner_point, edge_ends, facet_corners, facet_edges, corner_basis, is_set, corner_in_facet, edge_in_facet};
-ghost use Rattle.iso_model.specs.Hulls.{set_number};
-ghost use Rattle.cell_lattice.specs.Dimensions.{IsDimension};
+ghost use Rattle.iso_model.specs.Cells.{corner_count, edge_count, facet_count, corner_point, edge_ends, facet_corners, facet_edges, corner_basis, corner_in_facet, edge_in_facet};
+ghost use Rattle.iso_model.specs.Dimensions.{IsDimension};
 ghost use Rattle.cell_lattice.specs.SeamTables.{seam_at, met_corners, padded};
 ghost use Rattle.cell_lattice.specs.CellLemmas.{counted_seams, own_edges, ordered_ends, meets_corners, keeps_edges, two_facets, basis_spans};
+ghost use Rattle.lists.specs.Bits.{is_set, set_number};
+ghost use Rattle.cell_lattice.specs.FacetSets.{HasFacetCorners, HasFacetEdges};
 
 use crate::{Cell, Kind, Seam};
 
@@ -237,7 +238,8 @@ fn cube_corner<const D: usize>(corner: u8) -> [i32; D]
     point
 }
 
-fn cube_edge<const D: usize>(edge: u8) -> (u8, u8)
+/// The two corners of an edge of the cube of D axes, the smaller first: `edge_ends` of its cell, in any dimension.
+pub fn cube_edge<const D: usize>(edge: u8) -> (u8, u8)
     requires dimension { IsDimension D }
     requires edge { edge < edge_count Kind.Cube D }
     ensures ends { result ≡ edge_ends Kind.Cube D edge }
@@ -251,7 +253,7 @@ fn cube_facet<const D: usize>(facet: u8) -> u32
     requires dimension { IsDimension D }
     requires facet { facet < facet_count Kind.Cube D }
     ensures set { result ≡ set_number (facet_corners Kind.Cube D facet) }
-    ensures members { (k : ℕ) → k < corner_count Kind.Cube D → is_set result k ≡ corner_in_facet Kind.Cube facet k }
+    ensures members { HasFacetCorners Kind.Cube D facet result }
     ensures few { result < 2 ^ corner_count Kind.Cube D }
 {
     CORNERS_OF_FACETS[D - 2][facet as usize]
@@ -261,7 +263,7 @@ fn edges_of_cube_facet<const D: usize>(facet: u8) -> u32
     requires dimension { IsDimension D }
     requires facet { facet < facet_count Kind.Cube D }
     ensures set { result ≡ set_number (facet_edges Kind.Cube D facet) }
-    ensures members { (e : ℕ) → e < edge_count Kind.Cube D → is_set result e ≡ edge_in_facet Kind.Cube D facet e }
+    ensures members { HasFacetEdges Kind.Cube D facet result }
     ensures few { result < 2 ^ edge_count Kind.Cube D }
 {
     EDGES_OF_FACETS[D - 2][facet as usize]

@@ -4,19 +4,19 @@
 ghost use Rattle.std.specs.Prelude.{◌≡◌, ℕ, ◌^◌, ◌<◌, ◌≤◌, length, map, slice_index, pos, ◌+ℤ◌, All, refl};
 ghost use Rattle.std.proofs.Common.{inl, inr};
 ghost use Rattle.iso_model.specs.declared.Kind.{Kind};
-ghost use Rattle.iso_model.specs.Cells.{HasDimension, corner_count, edge_count, facet_count, corner_point, edge_ends, edge_midpoint, facet_corners, facet_edges, corner_basis, is_set, corner_in_facet, edge_in_facet};
+ghost use Rattle.iso_model.specs.Cells.{HasDimension, corner_count, edge_count, facet_count, corner_point, edge_ends, edge_midpoint, facet_corners, facet_edges, corner_basis, corner_in_facet, edge_in_facet};
 ghost use Rattle.iso_model.specs.Seams.{seams};
-ghost use Rattle.iso_model.specs.CellLaws.{HasOwnEdges, MeetsCorners, KeepsEdges, LiesInTwoFacets, SpansAtCorner};
-ghost use Rattle.iso_model.specs.Hulls.{set_number};
+ghost use Rattle.iso_model.specs.CellLaws.{HasOwnEdges, MeetsCorners, KeepsEdges, LiesInTwoFacets, SpansAtCorner, HasOrderedEnds};
 ghost use Rattle.cell_lattice.specs.Coordinates.{IsCoordinate};
-ghost use Rattle.cell_lattice.specs.Dimensions.{IsDimension};
+ghost use Rattle.iso_model.specs.Dimensions.{IsDimension};
 ghost use Rattle.cell_lattice.specs.SeamTables.{seam_at, met_corners, padded};
+ghost use Rattle.lists.specs.Bits.{is_set, set_number};
 
 mod cubes;
 mod pyramids;
 mod simplices;
 
-pub use cubes::CubeCell;
+pub use cubes::{CubeCell, cube_edge};
 pub use iso_model::Kind;
 pub use pyramids::PyramidCell;
 pub use simplices::SimplexCell;
@@ -126,7 +126,7 @@ pub trait Cell<const D: usize> {
 
     ghost seam_count: { SEAMS ≡ length (seams KIND D) };
 
-    ghost ordered_ends: { (e : ℕ) → e < edge_count KIND D → ((edge_ends KIND D e).0 < (edge_ends KIND D e).1) × ((edge_ends KIND D e).1 < corner_count KIND D) };
+    ghost ordered_ends: { HasOrderedEnds KIND D };
 
     ghost own_edges: { HasOwnEdges KIND D };
 

@@ -1,4 +1,4 @@
-pub mod SetBits
+pub mod SignBits
 pub mod CellPoints
 pub mod Samples
 pub mod Spans

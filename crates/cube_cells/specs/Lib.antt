@@ -1,2 +1,2 @@
-pub mod Points
+pub mod CubePoints
 pub mod SignedCubes

@@ -1,7 +1,7 @@
 //! Numbers by their bits.
 
 ghost use Rattle.std.specs.Prelude.{◌≡◌, ◌+◌, ◌^◌, ◌<◌, if◌then◌else◌};
-ghost use Rattle.iso_model.specs.Cells.{is_set as is_set_in};
+ghost use Rattle.lists.specs.Bits.{is_set as is_set_in};
 
 // Whether a bit is set.
 pub(crate) fn is_set(number: u32, bit: u8) -> bool

@@ -1,13 +1,13 @@
 //! The points of a cube: its corners and its centre.
 
 ghost use Rattle.std.specs.Prelude.{◌≡◌, ℕ, ◌+◌, ◌*◌, ◌^◌, ◌<◌, ◌≤◌, length, slice_index, All, int_le, unsigned_abs};
-ghost use Rattle.iso_model.specs.Cells.{is_set as is_set_in};
+ghost use Rattle.lists.specs.Bits.{is_set as is_set_in};
 ghost use Rattle.iso_model.specs.Turns.{total};
 ghost use Rattle.iso_model.specs.Splits.{cube_count, cube_at};
 ghost use Rattle.iso_model.specs.Values.{is_positive as is_positive_in};
-ghost use Rattle.cell_lattice.specs.Dimensions.{IsDimension};
-ghost use Rattle.mixed_cubes.specs.Faces.{face_samples};
-ghost use Rattle.cube_cells.specs.Points.{sizes_of, set_of, corner_sample, point_number as number_of};
+ghost use Rattle.iso_model.specs.Dimensions.{IsDimension};
+ghost use Rattle.mixed_cubes.specs.CubeFaces.{face_samples};
+ghost use Rattle.cube_cells.specs.CubePoints.{sizes_of, set_of, corner_sample, point_number as number_of};
 
 use crate::bits::with_bit;
 

@@ -2,7 +2,7 @@
 
 ghost use Rattle.std.specs.Prelude.{◌≡◌, ℕ, ◌^◌, ◌<◌, ◌≤◌, length, slice_index, All};
 ghost use Rattle.iso_model.specs.Values.{IsRegularGrid, product};
-ghost use Rattle.mixed_cubes.specs.Faces.{corner_number as corner_number_of};
+ghost use Rattle.mixed_cubes.specs.CubeFaces.{corner_number as corner_number_of};
 ghost use Rattle.cube_cells.specs.SignedCubes.{AreSteps};
 
 use mixed_cubes::corner_number;

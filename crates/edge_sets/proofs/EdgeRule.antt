@@ -1,22 +1,23 @@
 -- The rule of bipolar edges, by sets.
-use Rattle.std.specs.Prelude.{◌≡◌, ℕ, zero, suc, ◌+◌, ◌<◌, Bool, true, false, not, ◌&&◌, ◌||◌, ◌==◌, nat_eq, List, [], ◌∷◌, length, take, All}
+use Rattle.std.specs.Prelude.{◌≡◌, ℕ, ◌+◌, ◌<◌, Bool, true, false, not, ◌&&◌, ◌||◌, ◌==◌, nat_eq, List, [], ◌∷◌, length, take, All}
 use Rattle.std.specs.List.{list_all, list_any}
-use Rattle.std.specs.Int.{bit_at}
 use Rattle.std.proofs.Common.{get_or, refl, sym, ap, ◌∙◌, subst, arith, inl, inr}
 use Rattle.std.proofs.lemmas.Bool.{cases_lt, and_parts, and_from, and_left, or_cases, eqb-true, eq-eqb, both_ways, false≢true}
-use Rattle.std.proofs.lemmas.Nat.Bits.{same_from_bits, bit_at-lt}
 use Rattle.std.proofs.lemmas.List.FromFn.{get_or-range_with_len, length-range_with_len}
 use Rattle.std.proofs.lemmas.List.Elements.{All-head, All-tail}
 use Rattle.std.proofs.lemmas.List.Folds.{list_any_more, list_all_more, list_all_at}
 use Rattle.std.proofs.lemmas.List.Sums.{AllPass-from_list_all, list_all-from_AllPass}
 use Rattle.iso_model.specs.declared.Kind.{Kind}
-use Rattle.iso_model.specs.Orders.{numbers, has, is_distinct}
-use Rattle.iso_model.specs.Cells.{is_set, edge_count}
+use Rattle.lists.specs.Orders.{numbers, has, is_distinct}
+use Rattle.iso_model.specs.Cells.{edge_count}
 use Rattle.iso_model.specs.Tables.{IsTuple}
 use Rattle.iso_model.specs.Bipolar.{is_bipolar_in}
 use Rattle.iso_model.specs.Acceptance.{is_sound_tuple, rule_edges}
 use Rattle.edge_sets.proofs.SetLaws.{set_none}
 use Rattle.edge_sets.specs.Sets.{IsSetOf, is_sound_in, Suits}
+use Rattle.lists.specs.Bits.{is_set}
+use Rattle.lists.proofs.Tests.{not_or_from, same_tests, not_or}
+use Rattle.lists.proofs.Bits.{same_sets}
 
 -- tests that agree on the members
 pub all_same : {X : Type 0} (p q : X → Bool) (xs : List X) → All (λ x. p x ≡ q x) xs → list_all p xs ≡ list_all q xs
@@ -31,7 +32,8 @@ sound_same kind d label bipolar ws s w t =
     ap (λ b. (b && is_distinct w) && list_all (is_bipolar_in kind d label) w) (eq-eqb (length w) d t.0)
     ∙ ap (λ b. is_distinct w && b) (all_same (is_bipolar_in kind d label) (is_set bipolar) w (λ k n h. sym (s.bipolar_is (get_or w k n) (t.1 k n h))))
 
-tuples_same : (kind : Kind) (d label bipolar : ℕ) (ws : List (List ℕ)) → Suits kind d label bipolar ws → list_all (is_sound_tuple kind d label) ws ≡ list_all (is_sound_in bipolar) ws
+tuples_same : (kind : Kind) (d label bipolar : ℕ) (ws : List (List ℕ)) → Suits kind d label bipolar ws
+    → list_all (is_sound_tuple kind d label) ws ≡ list_all (is_sound_in bipolar) ws
 tuples_same kind d label bipolar ws s =
     all_same (is_sound_tuple kind d label) (is_sound_in bipolar) ws (λ k n h. sound_same kind d label bipolar ws s (get_or ws k n) (s.tuples k n h))
 
@@ -48,14 +50,11 @@ unsound kind d label bipolar ws i w s inside read fails =
 abbrev pub IsCover : ℕ → List (List ℕ) → Type 0
 IsCover covered ws = (e : ℕ) → is_set covered e ≡ list_any (λ w. has w e) ws
 
-or_false : (b : Bool) → (b || false) ≡ b
-or_false true = refl
-or_false false = refl
-
 pub cover_none : IsCover 0 []
 cover_none e = set_none e
 
-pub cover_more : (covered set more : ℕ) (ws : List (List ℕ)) (i : ℕ) (w : List ℕ) → i < length ws → w ≡ get_or ws i w → IsCover covered (take i ws) → IsSetOf set w
+pub cover_more : (covered set more : ℕ) (ws : List (List ℕ)) (i : ℕ) (w : List ℕ) → i < length ws → w ≡ get_or ws i w → IsCover covered (take i ws)
+    → IsSetOf set w
     → ((e : ℕ) → is_set more e ≡ (is_set covered e || is_set set e)) → IsCover more (take (i + 1) ws)
 cover_more covered set more ws i w inside read cover s joined e =
     joined e ∙ ap (λ b. b || is_set set e) (cover e) ∙ ap (λ b. list_any (λ v. has v e) (take i ws) || b) (s e ∙ ap (λ v. has v e) read)
@@ -88,32 +87,6 @@ covered_within bipolar e (w ∷ ws) sound any =
 
 -- ---- sets that are equal
 
-bit_same : (a b : ℕ) → a < 2 → b < 2 → (a == 1) ≡ (b == 1) → a ≡ b
-bit_same zero zero h k e = refl
-bit_same zero (suc zero) h k e = absurd (false≢true e)
-bit_same zero (suc (suc b)) h k e = absurd (omega arith)
-bit_same (suc zero) zero h k e = absurd (false≢true (sym e))
-bit_same (suc zero) (suc zero) h k e = refl
-bit_same (suc zero) (suc (suc b)) h k e = absurd (omega arith)
-bit_same (suc (suc a)) b h k e = absurd (omega arith)
-
-set_same : (a b : ℕ) → ((e : ℕ) → is_set a e ≡ is_set b e) → a ≡ b
-set_same a b h = same_from_bits a b (λ i. bit_same (bit_at a i) (bit_at b i) (bit_at-lt a i) (bit_at-lt b i) (h i))
-
-both_true : (a b : Bool) → (a ≡ true → b ≡ true) → (b ≡ true → a ≡ true) → a ≡ b
-both_true true b f g = sym (f refl)
-both_true false true f g = g refl
-both_true false false f g = refl
-
--- the test of an edge that is bipolar and stands in no tuple
-test_at : (bip any : Bool) → (not bip || any) ≡ true → bip ≡ true → any ≡ true
-test_at true any t h = t
-test_at false any t h = absurd (false≢true h)
-
-test_from : (bip any : Bool) → (bip ≡ true → any ≡ true) → (not bip || any) ≡ true
-test_from true any f = f refl
-test_from false any f = refl
-
 number_at : (n k d : ℕ) → k < n → get_or (numbers n) k d ≡ k
 number_at n k d h = get_or-range_with_len 0 n k d h ∙ omega arith
 
@@ -122,17 +95,19 @@ abbrev pub covers_all : Kind → ℕ → ℕ → List (List ℕ) → Bool
 covers_all kind d label ws = list_all (λ e. not (is_bipolar_in kind d label e) || list_any (λ w. has w e) ws) (numbers (edge_count kind d))
 
 -- where it does, what the tuples cover are the bipolar edges
-covered_same : (kind : Kind) (d label bipolar covered : ℕ) (ws : List (List ℕ)) → Suits kind d label bipolar ws → list_all (is_sound_in bipolar) ws ≡ true → IsCover covered ws
+covered_same : (kind : Kind) (d label bipolar covered : ℕ) (ws : List (List ℕ)) → Suits kind d label bipolar ws
+    → list_all (is_sound_in bipolar) ws ≡ true → IsCover covered ws
     → covers_all kind d label ws ≡ true → covered ≡ bipolar
 covered_same kind d label bipolar covered ws s sound cover all =
-    set_same covered bipolar
-    (λ e. both_true (is_set covered e) (is_set bipolar e) (λ h. covered_within bipolar e ws sound (sym (cover e) ∙ h)) (λ h. elim (cases_lt e (edge_count kind d)) as (λ _. is_set covered e ≡ true) [
+    same_sets covered bipolar
+    (λ e. same_tests (is_set covered e) (is_set bipolar e) (λ h. covered_within bipolar e ws sound (sym (cover e) ∙ h))
+    (λ h. elim (cases_lt e (edge_count kind d)) as (λ _. is_set covered e ≡ true) [
       | inl inside ↦
           let test : ℕ → Bool = λ k. not (is_bipolar_in kind d label k) || list_any (λ w. has w k) ws in
           let long : e < length (numbers (edge_count kind d)) = omega (arith, inside, length-range_with_len 0 (edge_count kind d)) in
           let passed = AllPass-from_list_all test (numbers (edge_count kind d)) all e 0 long in
           let at : test e ≡ true = subst (λ k. test k ≡ true) (number_at (edge_count kind d) e 0 inside) passed in
-          cover e ∙ test_at (is_bipolar_in kind d label e) (list_any (λ w. has w e) ws) at (sym (s.bipolar_is e inside) ∙ h)
+          cover e ∙ not_or (is_bipolar_in kind d label e) (list_any (λ w. has w e) ws) at (sym (s.bipolar_is e inside) ∙ h)
       | inr outside ↦ absurd (both_ways (is_set bipolar e) (s.others e outside) h)
     ]))
 
@@ -145,14 +120,15 @@ covers_same kind d label bipolar covered ws s cover same =
     (λ k n h.
     let inside : k < edge_count kind d = omega (arith, h, length-range_with_len 0 (edge_count kind d)) in
     subst (λ e. test e ≡ true) (sym (number_at (edge_count kind d) k n inside))
-    (test_from (is_bipolar_in kind d label k) (list_any (λ w. has w k) ws)
+    (not_or_from (is_bipolar_in kind d label k) (list_any (λ w. has w k) ws)
     (λ b. sym (cover k) ∙ ap (λ set. is_set set k) same ∙ s.bipolar_is k inside ∙ b)))
 
-pub edges_rule : (kind : Kind) (d label bipolar covered : ℕ) (ws : List (List ℕ)) → Suits kind d label bipolar ws → list_all (is_sound_in bipolar) ws ≡ true → IsCover covered ws
+pub edges_rule : (kind : Kind) (d label bipolar covered : ℕ) (ws : List (List ℕ)) → Suits kind d label bipolar ws
+    → list_all (is_sound_in bipolar) ws ≡ true → IsCover covered ws
     → (covered == bipolar) ≡ rule_edges kind d label ws
 edges_rule kind d label bipolar covered ws s sound cover =
     let sounds : list_all (is_sound_tuple kind d label) ws ≡ true = tuples_same kind d label bipolar ws s ∙ sound in
     let same : (covered == bipolar) ≡ covers_all kind d label ws =
-    both_true (covered == bipolar) (covers_all kind d label ws) (λ h. covers_same kind d label bipolar covered ws s cover (eqb-true covered bipolar h))
+    same_tests (covered == bipolar) (covers_all kind d label ws) (λ h. covers_same kind d label bipolar covered ws s cover (eqb-true covered bipolar h))
     (λ h. eq-eqb covered bipolar (covered_same kind d label bipolar covered ws s sound cover h)) in
     same ∙ ap (λ b. b && covers_all kind d label ws) (sym sounds)

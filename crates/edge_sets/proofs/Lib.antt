@@ -1,3 +1,3 @@
-mod SetLaws
+pub mod SetLaws
 mod EdgeRule
 mod FacetRule

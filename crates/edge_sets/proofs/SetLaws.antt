@@ -1,29 +1,27 @@
 -- Bits, members, and lists without repeats.
-use Rattle.std.specs.Prelude.{◌≡◌, ◌≢◌, ℕ, zero, suc, ◌+◌, ◌<◌, ◌≤◌, max, Bool, true, false, not, ◌&&◌, ◌||◌, ◌==◌, nat_eq, List, [], ◌∷◌, ◌++◌, length, take, drop}
+use Rattle.std.specs.Prelude.{◌≡◌, ◌≢◌, ℕ, zero, suc, ◌+◌, ◌<◌, ◌≤◌, max, Bool, true, false, not, ◌||◌, ◌==◌, nat_eq, List, [], ◌∷◌, ◌++◌}
+use Rattle.std.specs.Prelude.{length, take, drop}
 use Rattle.std.specs.List.{list_all}
 use Rattle.std.specs.Int.{bit_at}
 use Rattle.std.proofs.Common.{get_or, refl, sym, ap, ◌∙◌, subst, arith, inl, inr}
-use Rattle.std.proofs.lemmas.Bool.{cases_eq, and_parts, and_from, and_left, and_right, or_right, or_parts, eq-eqb, ne_eqb, both_ways, false_from_ne_true, not-true, not_from_true, not_from_false}
+use Rattle.std.proofs.lemmas.Bool.{cases_eq, and_parts, and_from, and_left, and_right, or_right, eq-eqb, ne_eqb, both_ways}
+use Rattle.std.proofs.lemmas.Bool.{false_from_ne_true, not_from_true, not_from_false}
 use Rattle.std.proofs.lemmas.Nat.Bits.{bit_at-zero, bit_at-lt}
 use Rattle.std.proofs.lemmas.List.{take_more, take-append-drop}
-use Rattle.std.proofs.lemmas.List.Folds.{list_any-append, list_all_more, list_all_at}
-use Rattle.iso_model.specs.Orders.{has, is_distinct}
-use Rattle.iso_model.specs.Cells.{is_set}
+use Rattle.std.proofs.lemmas.List.Folds.{list_all_more, list_all_at}
+use Rattle.lists.specs.Orders.{has, is_distinct}
 use mathlib.Core.Bool.{beq}
 use Rattle.iso_model.specs.Bipolar.{differ}
 use Rattle.edge_sets.specs.Sets.{IsSetOf, is_sound_in, differs}
-
-or_false : (b : Bool) → (b || false) ≡ b
-or_false true = refl
-or_false false = refl
+use Rattle.lists.specs.Bits.{is_set}
+use Rattle.lists.proofs.Tests.{or_false}
+use Rattle.lists.proofs.DistinctLists.{has-push, distinct-push, distinct-front}
 
 pub set_none : IsSetOf 0 []
 set_none e = ap (λ n. n == 1) (bit_at-zero e)
 
-has-push : (es : List ℕ) (x e : ℕ) → has (es ++ x ∷ []) e ≡ (has es e || (nat_eq e x || false))
-has-push es x e = list_any-append (nat_eq e) es (x ∷ [])
-
-pub set_push : (set more x : ℕ) (es : List ℕ) → IsSetOf set es → is_set more x ≡ true → ((e : ℕ) → e ≢ x → is_set more e ≡ is_set set e) → IsSetOf more (es ++ x ∷ [])
+pub set_push : (set more x : ℕ) (es : List ℕ) → IsSetOf set es → is_set more x ≡ true → ((e : ℕ) → e ≢ x → is_set more e ≡ is_set set e)
+    → IsSetOf more (es ++ x ∷ [])
 set_push set more x es s same others e = elim (cases_eq e x) [
   | inl h ↦
       let here : is_set more e ≡ true = ap (λ k. is_set more k) h ∙ same in
@@ -48,38 +46,14 @@ set_or a b e = two_bits (bit_at a e) (bit_at b e) (bit_at-lt a e) (bit_at-lt b e
 
 -- ---- lists without repeats
 
-bools : (a b p q : Bool) → (not (a || (b || false)) && (p && not q)) ≡ ((not a && p) && not (b || q))
-bools true b p q = refl
-bools false true true q = refl
-bools false true false q = refl
-bools false false p q = refl
-
-nat_eq-sym : (x y : ℕ) → nat_eq x y ≡ nat_eq y x
-nat_eq-sym x y = elim (cases_eq x y) [
-  | inl h ↦ eq-eqb x y h ∙ sym (eq-eqb y x (sym h))
-  | inr h ↦ ne_eqb x y h ∙ sym (ne_eqb y x (λ e. h (sym e)))
-]
-
-distinct-push : (es : List ℕ) (x : ℕ) → is_distinct (es ++ x ∷ []) ≡ (is_distinct es && not (has es x))
-distinct-push [] x = refl
-distinct-push (e ∷ es) x =
-    ap (λ b. not b && is_distinct (es ++ x ∷ [])) (has-push es x e) ∙ ap (λ b. not (has es e || (nat_eq e x || false)) && b) (distinct-push es x)
-    ∙ bools (has es e) (nat_eq e x) (is_distinct es) (has es x) ∙ ap (λ b. (not (has es e) && is_distinct es) && not (b || has es x)) (nat_eq-sym e x)
-
-distinct-front : (es fs : List ℕ) → is_distinct (es ++ fs) ≡ true → is_distinct es ≡ true
-distinct-front [] fs h = refl
-distinct-front (e ∷ es) fs h =
-    let p = and_parts (not (has (es ++ fs) e)) (is_distinct (es ++ fs)) h in
-    let q = or_parts (has es e) (has fs e) (sym (list_any-append (nat_eq e) es fs) ∙ not-true (has (es ++ fs) e) p.0) in
-    and_from (not (has es e)) (is_distinct es) (not_from_false (has es e) q.0) (distinct-front es fs p.1)
-
 pub sound_none : (set : ℕ) → is_sound_in set [] ≡ true
 sound_none set = refl
 
-taken : (w : List ℕ) (i x : ℕ) → i < length w → x ≡ get_or w i x → take (i + 1) w ≡ take i w ++ x ∷ []
+pub taken : (w : List ℕ) (i x : ℕ) → i < length w → x ≡ get_or w i x → take (i + 1) w ≡ take i w ++ x ∷ []
 taken w i x inside read = take_more w i x inside ∙ ap (λ y. take i w ++ y ∷ []) (sym read)
 
-pub sound_more : (set : ℕ) (w : List ℕ) (i x : ℕ) → i < length w → x ≡ get_or w i x → is_sound_in set (take i w) ≡ true → has (take i w) x ≡ false → is_set set x ≡ true
+pub sound_more : (set : ℕ) (w : List ℕ) (i x : ℕ) → i < length w → x ≡ get_or w i x → is_sound_in set (take i w) ≡ true → has (take i w) x ≡ false
+    → is_set set x ≡ true
     → is_sound_in set (take (i + 1) w) ≡ true
 sound_more set w i x inside read sound new there =
     let p = and_parts (is_distinct (take i w)) (list_all (is_set set) (take i w)) sound in
@@ -91,14 +65,16 @@ sound_more set w i x inside read sound new there =
     list_all_more (is_set set) w i x inside
     ∙ and_from (list_all (is_set set) (take i w)) (is_set set (get_or w i x)) p.1 (subst (λ e. is_set set e ≡ true) read there))
 
-pub set_more : (set more : ℕ) (w : List ℕ) (i x : ℕ) → i < length w → x ≡ get_or w i x → IsSetOf set (take i w) → is_set more x ≡ true → ((e : ℕ) → e ≢ x → is_set more e ≡ is_set set e)
+pub set_more : (set more : ℕ) (w : List ℕ) (i x : ℕ) → i < length w → x ≡ get_or w i x → IsSetOf set (take i w) → is_set more x ≡ true
+    → ((e : ℕ) → e ≢ x → is_set more e ≡ is_set set e)
     → IsSetOf more (take (i + 1) w)
 set_more set more w i x inside read s same others = subst (IsSetOf more) (sym (taken w i x inside read)) (set_push set more x (take i w) s same others)
 
 pub repeats : (set : ℕ) (w : List ℕ) (i x : ℕ) → i < length w → x ≡ get_or w i x → has (take i w) x ≡ true → is_sound_in set w ≡ false
 repeats set w i x inside read old =
     let now : is_distinct (take (i + 1) w) ≡ false =
-    ap is_distinct (taken w i x inside read) ∙ distinct-push (take i w) x ∙ and_right (is_distinct (take i w)) (not (has (take i w) x)) (not_from_true (has (take i w) x) old) in
+    ap is_distinct (taken w i x inside read) ∙ distinct-push (take i w) x
+    ∙ and_right (is_distinct (take i w)) (not (has (take i w) x)) (not_from_true (has (take i w) x) old) in
     and_left (is_distinct w) (list_all (is_set set) w)
     (false_from_ne_true (is_distinct w)
     (λ h. both_ways (is_distinct (take (i + 1) w)) now (distinct-front (take (i + 1) w) (drop (i + 1) w) (ap is_distinct (take-append-drop (i + 1) w) ∙ h))))
@@ -127,7 +103,8 @@ pub record AreBipolarBelow (label set place : ℕ) (ends : List (ℕ × ℕ)) : 
 pub bipolar_none : (label : ℕ) (ends : List (ℕ × ℕ)) → AreBipolarBelow label 0 0 ends
 bipolar_none label ends = record { members = λ e h. absurd (omega arith); others = λ e h. set_none e }
 
-pub bipolar_more : (label set more i : ℕ) (ends : List (ℕ × ℕ)) (r : Bool) → AreBipolarBelow label set i ends → differs label (get_or ends i (0, 0)) ≡ r → is_set more i ≡ r
+pub bipolar_more : (label set more i : ℕ) (ends : List (ℕ × ℕ)) (r : Bool) → AreBipolarBelow label set i ends
+    → differs label (get_or ends i (0, 0)) ≡ r → is_set more i ≡ r
     → ((e : ℕ) → e ≢ i → is_set more e ≡ is_set set e) → AreBipolarBelow label more (i + 1) ends
 bipolar_more label set more i ends r s told here others = record {
   members = λ e h. elim (cases_eq e i) [

@@ -3,7 +3,7 @@
 ghost use Rattle.std.specs.Prelude.{◌≡◌, ℕ, ◌<◌, All};
 ghost use Rattle.iso_model.specs.declared.Kind.{Kind};
 ghost use Rattle.iso_model.specs.Acceptance.{rule_edges};
-ghost use Rattle.edge_sets.specs.Sets.{Suits};
+ghost use Rattle.edge_sets.specs.Sets.{Suits, AnswersEdges};
 
 use crate::sets::{joined, sound_set};
 
@@ -11,7 +11,7 @@ use crate::sets::{joined, sound_set};
 /// bipolar edges are given as a set.
 pub fn keeps_edges<const D: usize>(bipolar: u32, tuples: &[[u8; D]]) -> bool
     requires { All (λ w. All (λ e. e < 32) w) tuples.now }
-    ensures { (kind : Kind) (label : ℕ) → Suits kind D label bipolar tuples.now → result ≡ rule_edges kind D label tuples.now }
+    ensures { AnswersEdges D bipolar tuples.now result }
 {
     let mut covered = 0;
     for tuple in tuples {

@@ -3,9 +3,9 @@
 ghost use Rattle.std.specs.Prelude.{◌≡◌, ℕ, ◌<◌, All};
 ghost use Rattle.std.specs.List.{list_all, list_any};
 ghost use Rattle.iso_model.specs.declared.Kind.{Kind};
-ghost use Rattle.iso_model.specs.Cells.{is_set};
 ghost use Rattle.iso_model.specs.Acceptance.{rule_inside};
 ghost use Rattle.edge_sets.specs.Sets.{SuitsFacets};
+ghost use Rattle.lists.specs.Bits.{is_set};
 
 use crate::sets::has_member;
 

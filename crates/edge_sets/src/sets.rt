@@ -1,8 +1,8 @@
 //! Sets of edges and of corners: bit k is set where number k is a member.
 
 ghost use Rattle.std.specs.Prelude.{◌≡◌, ◌≢◌, ℕ, ◌<◌, ◌≤◌, ◌||◌, true, false, length, slice_index_or, All, IfSome, IfNone};
-ghost use Rattle.iso_model.specs.Cells.{is_set};
-ghost use Rattle.edge_sets.specs.Sets.{IsSetOf, is_sound_in, differs};
+ghost use Rattle.edge_sets.specs.Sets.{IsSetOf, is_sound_in, differs, HasDiffering};
+ghost use Rattle.lists.specs.Bits.{is_set};
 
 /// Whether a number is a member.
 pub fn has_member(set: u32, member: u8) -> bool
@@ -53,7 +53,7 @@ pub(crate) fn sound_set<const D: usize>(within: u32, tuple: &[u8; D]) -> Option<
 pub fn bipolar_set(label: u32, ends: &[(u8, u8)]) -> u32
     requires few { length ends.now ≤ 32 }
     requires corners { All (λ (p : ℕ × ℕ). (p.0 < 32) × (p.1 < 32)) ends.now }
-    ensures members { (e : ℕ) → e < length ends.now → is_set result e ≡ differs label (slice_index_or ends.now e (0, 0)) }
+    ensures members { HasDiffering ends.now label result }
     ensures others { (e : ℕ) → length ends.now ≤ e → is_set result e ≡ false }
 {
     let mut set = 0;

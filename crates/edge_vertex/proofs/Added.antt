@@ -6,30 +6,36 @@ use Rattle.std.proofs.lemmas.Bool.{false≢true, cases_lt}
 use Rattle.std.proofs.lemmas.Nat.Bits.{bit_at-zero, bit_at_ones}
 use Rattle.grid_split.specs.declared.split.Edge.{Edge}
 use Rattle.iso_model.specs.declared.Kind.{Kind}
-use Rattle.iso_model.specs.Cells.{is_set, edge_ends}
+use Rattle.iso_model.specs.Cells.{edge_ends}
 use Rattle.iso_model.specs.Splits as Splits
 use Rattle.iso_model.specs.Bipolar.{differ, is_bipolar_in}
 use Rattle.iso_model.specs.Values.{Volume, label_of}
-use Rattle.iso_model.proofs.FaceLaws.{Contains-head, Contains-tail, Contains-split}
 use Rattle.edge_vertex.specs.EdgeValue.{edge_of, edges_of, Adds, IsBipolarAt, IsBipolarOf, IsBipolarFrom}
-
-none : {X : Type 0} (x : X) → Contains [] x → ⊥
-none x c = let h : c.0 < 0 = c.1 in omega arith
+use Rattle.lists.specs.Bits.{is_set}
+use Rattle.lists.proofs.Contained.{Contains-head, Contains-tail, Contains-split, none_contained}
+use Rattle.iso_model.proofs.SignLaws.{same_signs}
 
 -- ---- an edge that is put in
 
-any_has : {D : ℕ} (E : Edge D → Bool) (x : Edge D) (ks : List (Edge D)) → ((y : Edge D) → E y ≡ true → x ≡ y) → list_any E ks ≡ true → Contains (edges_of ks) (edge_of x)
+any_has : {D : ℕ} (E : Edge D → Bool) (x : Edge D) (ks : List (Edge D)) → ((y : Edge D) → E y ≡ true → x ≡ y) → list_any E ks ≡ true
+    → Contains (edges_of ks) (edge_of x)
 any_has E x [] same h = absurd (false≢true h)
 any_has {D} E x (y ∷ ks) same h = go (E y) (λ e. same y e) (λ g. any_has E x ks same g) h
   where
-    go : (b : Bool) → (b ≡ true → x ≡ y) → (list_any E ks ≡ true → Contains (edges_of ks) (edge_of x)) → (b || list_any E ks) ≡ true → Contains (edges_of (y ∷ ks)) (edge_of x)
+    go : (b : Bool) → (b ≡ true → x ≡ y) → (list_any E ks ≡ true → Contains (edges_of ks) (edge_of x)) → (b || list_any E ks) ≡ true
+        → Contains (edges_of (y ∷ ks)) (edge_of x)
     go true f later g = subst (λ (z : Edge D). Contains (edges_of (y ∷ ks)) (edge_of z)) (sym (f refl)) (Contains-head (edge_of y) (edges_of ks))
     go false f later g = Contains-tail (edge_of x) (edge_of y) (edges_of ks) (later g)
 
 adds_last : {D : ℕ} (x : Edge D) (ks : List (Edge D)) → Adds (λ e. edge_of x ≡ e) (edges_of ks) (edges_of (ks ++ x ∷ []))
 adds_last x [] e = (
   λ c. elim (Contains-split e (edge_of x) [] c) as (λ _. Contains [] e ⊎ (edge_of x ≡ e)) [ inl same ↦ inr same | inr c' ↦ inl c' ],
-  λ c. elim c as (λ _. Contains (edge_of x ∷ []) e) [ inl c' ↦ absurd (none e c') | inr same ↦ subst (λ (z : Splits.Edge). Contains (edge_of x ∷ []) z) same (Contains-head (edge_of x) []) ],
+  λ c.
+      elim c as (λ _. Contains (edge_of x ∷ []) e)
+          [
+            inl c' ↦ absurd (none_contained e c') | inr same ↦ subst (λ (z : Splits.Edge). Contains (edge_of x ∷ []) z) same
+                (Contains-head (edge_of x) [])
+          ],
 )
 adds_last x (y ∷ ks) e = (
   λ c. elim (Contains-split e (edge_of y) (edges_of (ks ++ x ∷ [])) c) as (λ _. Contains (edges_of (y ∷ ks)) e ⊎ (edge_of x ≡ e)) [
@@ -48,10 +54,12 @@ adds_last x (y ∷ ks) e = (
   ],
 )
 
-pub insert_adds : {D : ℕ} (E : Edge D → Bool) (x : Edge D) (ks new : List (Edge D)) → ((y : Edge D) → E y ≡ true → x ≡ y) → new ≡ (if list_any E ks then ks else ks ++ x ∷ []) → Adds (λ e. edge_of x ≡ e) (edges_of ks) (edges_of new)
+pub insert_adds : {D : ℕ} (E : Edge D → Bool) (x : Edge D) (ks new : List (Edge D)) → ((y : Edge D) → E y ≡ true → x ≡ y)
+    → new ≡ (if list_any E ks then ks else ks ++ x ∷ []) → Adds (λ e. edge_of x ≡ e) (edges_of ks) (edges_of new)
 insert_adds {D} E x ks new same is = go (list_any E ks) (λ h. any_has E x ks same h) is
   where
-    go : (b : Bool) → (b ≡ true → Contains (edges_of ks) (edge_of x)) → new ≡ (if b then ks else ks ++ x ∷ []) → Adds (λ e. edge_of x ≡ e) (edges_of ks) (edges_of new)
+    go : (b : Bool) → (b ≡ true → Contains (edges_of ks) (edge_of x)) → new ≡ (if b then ks else ks ++ x ∷ [])
+        → Adds (λ e. edge_of x ≡ e) (edges_of ks) (edges_of new)
     go true f i = λ e. (
       λ c. inl (subst (λ (ys : List (Edge D)). Contains (edges_of ys) e) i c),
       λ c. elim c as (λ _. Contains (edges_of new) e) [
@@ -72,7 +80,8 @@ adds_same P Q old new same a e = (
   λ c. (a e).1 (elim c as (λ _. Contains old e ⊎ P e) [ inl d ↦ inl d | inr q ↦ inr ((same e).1 q) ]),
 )
 
-pub adds_more : (P Q R : Splits.Edge → Type 0) (old mid new : List Splits.Edge) → ((e : Splits.Edge) → R e ↔ (P e ⊎ Q e)) → Adds P old mid → Adds Q mid new → Adds R old new
+pub adds_more : (P Q R : Splits.Edge → Type 0) (old mid new : List Splits.Edge) → ((e : Splits.Edge) → R e ↔ (P e ⊎ Q e)) → Adds P old mid
+    → Adds Q mid new → Adds R old new
 adds_more P Q R old mid new same a b e = (
   λ c. elim ((b e).0 c) as (λ _. Contains old e ⊎ R e) [
     | inl m ↦ elim ((a e).0 m) as (λ _. Contains old e ⊎ R e) [ inl d ↦ inl d | inr p ↦ inr ((same e).1 (inl p)) ]
@@ -103,25 +112,38 @@ none_below P r = let h : r.0 < 0 = r.1 in omega arith
 pub no_edges : (kind : Kind) (sizes : List ℕ) (cell label : ℕ) (old : List Splits.Edge) → Adds (IsBipolarOf kind sizes cell label 0) old old
 no_edges kind sizes cell label old = adds_none (IsBipolarOf kind sizes cell label 0) old (λ e r. none_below (λ k. IsBipolarAt kind sizes cell label k e) r)
 
-pub next_edge : (kind : Kind) (sizes : List ℕ) (cell label n : ℕ) (old mid new : List Splits.Edge) → Adds (IsBipolarOf kind sizes cell label n) old mid → Adds (IsBipolarAt kind sizes cell label n) mid new → Adds (IsBipolarOf kind sizes cell label (n + 1)) old new
+pub next_edge : (kind : Kind) (sizes : List ℕ) (cell label n : ℕ) (old mid new : List Splits.Edge)
+    → Adds (IsBipolarOf kind sizes cell label n) old mid → Adds (IsBipolarAt kind sizes cell label n) mid new
+    → Adds (IsBipolarOf kind sizes cell label (n + 1)) old new
 next_edge kind sizes cell label n old mid new a b =
-    adds_more (IsBipolarOf kind sizes cell label n) (IsBipolarAt kind sizes cell label n) (IsBipolarOf kind sizes cell label (n + 1)) old mid new (λ e. one_below (λ k. IsBipolarAt kind sizes cell label k e) n) a b
+    adds_more (IsBipolarOf kind sizes cell label n) (IsBipolarAt kind sizes cell label n) (IsBipolarOf kind sizes cell label (n + 1)) old mid new
+        (λ e. one_below (λ k. IsBipolarAt kind sizes cell label k e) n) a b
 
-pub at_bipolar : (kind : Kind) (sizes : List ℕ) (cell label n : ℕ) (x : Splits.Edge) (old new : List Splits.Edge) → is_bipolar_in kind (length sizes) label n ≡ true → x ≡ Splits.edge kind sizes cell n → Adds (λ e. x ≡ e) old new → Adds (IsBipolarAt kind sizes cell label n) old new
+pub at_bipolar : (kind : Kind) (sizes : List ℕ) (cell label n : ℕ) (x : Splits.Edge) (old new : List Splits.Edge)
+    → is_bipolar_in kind (length sizes) label n ≡ true → x ≡ Splits.edge kind sizes cell n → Adds (λ e. x ≡ e) old new
+    → Adds (IsBipolarAt kind sizes cell label n) old new
 at_bipolar kind sizes cell label n x old new so is a =
     adds_same (λ e. x ≡ e) (IsBipolarAt kind sizes cell label n) old new (λ e. (λ s. (so, sym is ∙ s), λ r. is ∙ r.1)) a
 
-pub not_bipolar : (kind : Kind) (sizes : List ℕ) (cell label n : ℕ) (old : List Splits.Edge) → is_bipolar_in kind (length sizes) label n ≡ false → Adds (IsBipolarAt kind sizes cell label n) old old
+pub not_bipolar : (kind : Kind) (sizes : List ℕ) (cell label n : ℕ) (old : List Splits.Edge) → is_bipolar_in kind (length sizes) label n ≡ false
+    → Adds (IsBipolarAt kind sizes cell label n) old old
 not_bipolar kind sizes cell label n old not_so = adds_none (IsBipolarAt kind sizes cell label n) old (λ e r. false≢true (sym not_so ∙ r.0))
 
 pub no_ranks : (v : Volume) (n first : ℕ) (old : List Splits.Edge) → Adds (IsBipolarFrom v n first 0) old old
-no_ranks v n first old = adds_none (IsBipolarFrom v n first 0) old (λ e r. none_below (λ rank. IsBipolarOf v.kind v.sizes (first + rank) (label_of v (first + rank)) n e) r)
+no_ranks v n first old =
+    adds_none (IsBipolarFrom v n first 0) old
+        (λ e r. none_below (λ rank. IsBipolarOf v.kind v.sizes (first + rank) (label_of v (first + rank)) n e) r)
 
-pub next_rank : (v : Volume) (n first rank cell label : ℕ) (old mid new : List Splits.Edge) → cell ≡ first + rank → label ≡ label_of v cell → Adds (IsBipolarFrom v n first rank) old mid → Adds (IsBipolarOf v.kind v.sizes cell label n) mid new → Adds (IsBipolarFrom v n first (rank + 1)) old new
+pub next_rank : (v : Volume) (n first rank cell label : ℕ) (old mid new : List Splits.Edge) → cell ≡ first + rank → label ≡ label_of v cell
+    → Adds (IsBipolarFrom v n first rank) old mid → Adds (IsBipolarOf v.kind v.sizes cell label n) mid new
+    → Adds (IsBipolarFrom v n first (rank + 1)) old new
 next_rank v n first rank cell label old mid new at is a b =
-    let labelled : Adds (IsBipolarOf v.kind v.sizes cell (label_of v cell) n) mid new = subst (λ (l : ℕ). Adds (IsBipolarOf v.kind v.sizes cell l n) mid new) is b in
-    let placed : Adds (IsBipolarOf v.kind v.sizes (first + rank) (label_of v (first + rank)) n) mid new = subst (λ (c : ℕ). Adds (IsBipolarOf v.kind v.sizes c (label_of v c) n) mid new) at labelled in
-    adds_more (IsBipolarFrom v n first rank) (IsBipolarOf v.kind v.sizes (first + rank) (label_of v (first + rank)) n) (IsBipolarFrom v n first (rank + 1)) old mid new
+    let labelled : Adds (IsBipolarOf v.kind v.sizes cell (label_of v cell) n) mid new =
+        subst (λ (l : ℕ). Adds (IsBipolarOf v.kind v.sizes cell l n) mid new) is b in
+    let placed : Adds (IsBipolarOf v.kind v.sizes (first + rank) (label_of v (first + rank)) n) mid new =
+        subst (λ (c : ℕ). Adds (IsBipolarOf v.kind v.sizes c (label_of v c) n) mid new) at labelled in
+    adds_more (IsBipolarFrom v n first rank) (IsBipolarOf v.kind v.sizes (first + rank) (label_of v (first + rank)) n)
+        (IsBipolarFrom v n first (rank + 1)) old mid new
     (λ e. one_below (λ r. IsBipolarOf v.kind v.sizes (first + r) (label_of v (first + r)) n e) rank) a placed
 
 -- an edge that is bipolar in a cell of one of the first k cubes of a list, of which each has this many cells
@@ -131,23 +153,19 @@ InCubes v n per cubes k e = (i : ℕ) × (i < k) × IsBipolarFrom v n (slice_ind
 pub no_cubes : (v : Volume) (n per : ℕ) (cubes : List ℕ) → Adds (InCubes v n per cubes 0) [] []
 no_cubes v n per cubes = adds_none (InCubes v n per cubes 0) [] (λ e r. none_below (λ i. IsBipolarFrom v n (slice_index cubes i * per) per e) r)
 
-pub next_cube : (v : Volume) (n per : ℕ) (cubes : List ℕ) (k : ℕ) (mid new : List Splits.Edge) → Adds (InCubes v n per cubes k) [] mid → Adds (IsBipolarFrom v n (slice_index cubes k * per) per) mid new → Adds (InCubes v n per cubes (k + 1)) [] new
+pub next_cube : (v : Volume) (n per : ℕ) (cubes : List ℕ) (k : ℕ) (mid new : List Splits.Edge) → Adds (InCubes v n per cubes k) [] mid
+    → Adds (IsBipolarFrom v n (slice_index cubes k * per) per) mid new → Adds (InCubes v n per cubes (k + 1)) [] new
 next_cube v n per cubes k mid new a b =
-    adds_more (InCubes v n per cubes k) (IsBipolarFrom v n (slice_index cubes k * per) per) (InCubes v n per cubes (k + 1)) [] mid new (λ e. one_below (λ i. IsBipolarFrom v n (slice_index cubes i * per) per e) k) a b
+    adds_more (InCubes v n per cubes k) (IsBipolarFrom v n (slice_index cubes k * per) per) (InCubes v n per cubes (k + 1)) [] mid new
+        (λ e. one_below (λ i. IsBipolarFrom v n (slice_index cubes i * per) per e) k) a b
 
 pub from_nothing : (P : Splits.Edge → Type 0) (new : List Splits.Edge) → Adds P [] new → (e : Splits.Edge) → Contains new e ↔ P e
 from_nothing P new a e = (
-  λ c. elim ((a e).0 c) as (λ _. P e) [ inl d ↦ absurd (none e d) | inr p ↦ p ],
+  λ c. elim ((a e).0 c) as (λ _. P e) [ inl d ↦ absurd (none_contained e d) | inr p ↦ p ],
   λ p. (a e).1 (inr p),
 )
 
 -- ---- labels with one sign
-
-same_signs : (a b : Bool) → a ≡ b → differ a b ≡ false
-same_signs true true e = refl
-same_signs true false e = absurd (false≢true (sym e))
-same_signs false true e = absurd (false≢true e)
-same_signs false false e = refl
 
 -- where all corners are negative, and where all are positive, no edge is bipolar
 pub none_negative : (kind : Kind) (sizes : List ℕ) (cell label n : ℕ) (e : Splits.Edge) → label ≡ 0 → IsBipolarOf kind sizes cell label n e → ⊥
@@ -159,7 +177,8 @@ none_negative kind sizes cell label n e zero_label r =
     unset k = rw (zero_label, bit_at-zero k) refl
 
 pub none_positive : (kind : Kind) (sizes : List ℕ) (cell label n corners : ℕ) (e : Splits.Edge) → label + 1 ≡ 2 ^ corners
-    → ((k : ℕ) → k < n → ((edge_ends kind (length sizes) k).0 < corners) × ((edge_ends kind (length sizes) k).1 < corners)) → IsBipolarOf kind sizes cell label n e → ⊥
+    → ((k : ℕ) → k < n → ((edge_ends kind (length sizes) k).0 < corners) × ((edge_ends kind (length sizes) k).1 < corners))
+        → IsBipolarOf kind sizes cell label n e → ⊥
 none_positive kind sizes cell label n corners e full inside r =
     let ends = edge_ends kind (length sizes) r.0 in
     let here = inside r.0 r.1 in
@@ -172,15 +191,11 @@ none_positive kind sizes cell label n corners e full inside r =
     put k h = rw (is, bit_at_ones corners k h) refl
 
 pub all_positive : (kind : Kind) (sizes : List ℕ) (cell label n corners : ℕ) (old : List Splits.Edge) → label + 1 ≡ 2 ^ corners
-    → ((k : ℕ) → k < n → ((edge_ends kind (length sizes) k).0 < corners) × ((edge_ends kind (length sizes) k).1 < corners)) → Adds (IsBipolarOf kind sizes cell label n) old old
+    → ((k : ℕ) → k < n → ((edge_ends kind (length sizes) k).0 < corners) × ((edge_ends kind (length sizes) k).1 < corners))
+        → Adds (IsBipolarOf kind sizes cell label n) old old
 all_positive kind sizes cell label n corners old full inside =
     adds_none (IsBipolarOf kind sizes cell label n) old (λ e r. none_positive kind sizes cell label n corners e full inside r)
 
 pub all_negative : (kind : Kind) (sizes : List ℕ) (cell label n : ℕ) (old : List Splits.Edge) → label ≡ 0 → Adds (IsBipolarOf kind sizes cell label n) old old
 all_negative kind sizes cell label n old zero_label =
     adds_none (IsBipolarOf kind sizes cell label n) old (λ e r. none_negative kind sizes cell label n e zero_label r)
-
--- what holds on success
-pub on_ok : {T E : Type 0} (r : Result T E) (P Q : Type 0) → (P → Q) → OnOk r P → OnOk r Q
-on_ok (Ok x) P Q f p = f p
-on_ok (Err e) P Q f p = tt

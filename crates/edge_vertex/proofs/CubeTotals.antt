@@ -7,17 +7,13 @@ use Rattle.std.proofs.lemmas.List.Folds.{list_all_at}
 use Rattle.iso_model.specs.Turns.{total}
 use Rattle.iso_model.specs.Values.{IsSamplePoint, IsCentre, sample_number, cube_samples, product, value_at}
 use Rattle.edge_vertex.specs.Sums.{sample, cube_total}
-use Rattle.edge_vertex.proofs.Places.{halves, next_below}
-
-even_all : (p : List ℕ) → ((i : ℕ) → i < length p → slice_index p i % 2 ≡ 0) → list_all (λ c. c % 2 == 0) p ≡ true
-even_all [] h = refl
-even_all (c ∷ p) h =
-    let first : c % 2 ≡ 0 = h 0 (omega arith) in
-    let rest : list_all (λ c. c % 2 == 0) p ≡ true = even_all p (λ i k. h (suc i) (omega (arith, k))) in
-    rw (first, rest) refl
+use Rattle.edge_vertex.proofs.Places.{halves}
+use Rattle.lists.proofs.MemberLaws.{even_all}
+use Rattle.lists.proofs.Tests.{next_below}
 
 -- at a sample's point
-pub sample_value : (sizes : List ℕ) (samples : List ℤ) (p : List ℕ) (place : ℕ) → IsSamplePoint sizes p → place ≡ sample_number sizes (halves p) → value_at sizes samples p ≡ pos 8 *ℤ sample samples place
+pub sample_value : (sizes : List ℕ) (samples : List ℤ) (p : List ℕ) (place : ℕ) → IsSamplePoint sizes p → place ≡ sample_number sizes (halves p)
+    → value_at sizes samples p ≡ pos 8 *ℤ sample samples place
 unfolding value_at
 sample_value sizes samples p place is at =
     let even : list_all (λ c. c % 2 == 0) p ≡ true = even_all p (λ i h. let here = is.1 i (omega (arith, h, is.0)) in here.0) in
@@ -34,7 +30,8 @@ corners_total : (samples : List ℤ) (n m k x y z : ℕ) →
     total (cube_samples (n ∷ m ∷ k ∷ []) samples (x ∷ y ∷ z ∷ [])) ≡ cube_total samples (sample_number (n ∷ m ∷ k ∷ []) (x ∷ y ∷ z ∷ [])) n (n * m)
 corners_total samples n m k x y z =
     let first : ℕ = x + n * (y + m * (z + k * 0)) in
-    let s : (a b c place : ℕ) → first + c * (n * m) + b * n + a ≡ place → sample samples ((x + a) + n * ((y + b) + m * ((z + c) + k * 0))) ≡ sample samples place =
+    let s : (a b c place : ℕ) → first + c * (n * m) + b * n + a ≡ place
+        → sample samples ((x + a) + n * ((y + b) + m * ((z + c) + k * 0))) ≡ sample samples place =
     λ a b c place e. ap (sample samples) (corner_place n m k x y z a b c ∙ e) in
     rw (
       s 0 0 0 first (omega arith),

@@ -1,5 +1,6 @@
 -- A grid has fewer than 2^32 edges: the midpoints of different edges have different numbers, and these are small.
-use Rattle.std.proofs.Common.{◌≡◌, ℕ, suc, ◌+◌, ◌*◌, ◌/◌, ◌%◌, ◌^◌, ◌<◌, ◌≤◌, Bool, true, false, List, [], ◌∷◌, length, slice_index_or, refl, sym, ap, ◌∙◌, subst, arith, inl, inr, eqb}
+use Rattle.std.proofs.Common.{◌≡◌, ℕ, suc, ◌+◌, ◌*◌, ◌/◌, ◌%◌, ◌^◌, ◌<◌, ◌≤◌, Bool, true, false, List, [], ◌∷◌, length, slice_index_or, refl, sym, ap}
+use Rattle.std.proofs.Common.{◌∙◌, subst, arith, inl, inr, eqb}
 use Rattle.std.specs.Prelude.{map, slice_index, Contains, ◌⊎◌, if◌then◌else◌}
 use Rattle.std.specs.List.{list_any}
 use native.Mathlib.Nat.{pow-succ'}
@@ -19,25 +20,28 @@ use Rattle.iso_model.specs.Splits.{cell_count, cells_per_cube, cube_of, rank_of,
 use Rattle.iso_model.specs.Neighbours.{HasEdge, HaveOwnMidpoints}
 use Rattle.iso_model.specs.Values.{product, sample_number}
 use Rattle.iso_model.proofs.BipolarLaws.{length-corner, length-edge}
-use Rattle.iso_model.proofs.Deciding.{Contains-at}
-use Rattle.cell_lattice.specs.Dimensions.{IsDimension}
+use Rattle.iso_model.specs.Dimensions.{IsDimension}
 use Rattle.split_laws.proofs.Coordinates.{lists_same, coordinate, cube_below, cube_in, rank_below}
 use Rattle.split_laws.proofs.SplitTheorems.{small_offsets}
 use Rattle.mixed_cubes.proofs.OffsetCases.{offset_case}
 use Rattle.edge_vertex.specs.EdgeValue.{edge_of, edges_of}
 use Rattle.edge_vertex.proofs.Ascending.{plus_at}
-use Rattle.edge_vertex.proofs.Places.{next_below}
+use Rattle.lists.proofs.Contained.{Contains-at}
+use Rattle.lists.proofs.Tests.{next_below}
+use Rattle.iso_model.proofs.CellCounts.{some_axes}
 
 -- ---- places by their numbers
 
-number_in : (sizes x : List ℕ) → length x ≡ length sizes → ((i : ℕ) → i < length sizes → slice_index x i < slice_index sizes i) → sample_number sizes x < product sizes
+number_in : (sizes x : List ℕ) → length x ≡ length sizes → ((i : ℕ) → i < length sizes → slice_index x i < slice_index sizes i)
+    → sample_number sizes x < product sizes
 number_in [] x long inside = omega arith
 number_in (n ∷ sizes) [] long inside = absurd (omega (arith, long))
 number_in (n ∷ sizes) (c ∷ x) long inside =
     let rest : sample_number sizes x < product sizes = number_in sizes x (omega (arith, long)) (λ i h. inside (suc i) (omega (arith, h))) in
     rw (product_of n sizes) (next_below c n (sample_number sizes x) (product sizes) (inside 0 (omega arith)) rest)
 
-number_fixed : (sizes x y : List ℕ) → length x ≡ length sizes → length y ≡ length sizes → ((i : ℕ) → i < length sizes → slice_index x i < slice_index sizes i) → ((i : ℕ) → i < length sizes → slice_index y i < slice_index sizes i) →
+number_fixed : (sizes x y : List ℕ) → length x ≡ length sizes → length y ≡ length sizes
+    → ((i : ℕ) → i < length sizes → slice_index x i < slice_index sizes i) → ((i : ℕ) → i < length sizes → slice_index y i < slice_index sizes i) →
     sample_number sizes x ≡ sample_number sizes y → x ≡ y
 number_fixed [] [] [] lx ly hx hy same = refl
 number_fixed [] (c ∷ x) y lx ly hx hy same = absurd (omega (arith, lx))
@@ -49,8 +53,11 @@ number_fixed (n ∷ sizes) (c ∷ x) (e ∷ y) lx ly hx hy same =
     let hc : c < n = hx 0 (omega arith) in
     let he : e < n = hy 0 (omega arith) in
     let first : c ≡ e = sym (mod-mul-add (sample_number sizes x) n c hc) ∙ ap (λ (v : ℕ). v % n) turned ∙ mod-mul-add (sample_number sizes y) n e he in
-    let others : sample_number sizes x ≡ sample_number sizes y = sym (div-mul-add (sample_number sizes x) n c hc) ∙ ap (λ (v : ℕ). v / n) turned ∙ div-mul-add (sample_number sizes y) n e he in
-    let tails : x ≡ y = number_fixed sizes x y (omega (arith, lx)) (omega (arith, ly)) (λ i h. hx (suc i) (omega (arith, h))) (λ i h. hy (suc i) (omega (arith, h))) others in
+    let others : sample_number sizes x ≡ sample_number sizes y =
+        sym (div-mul-add (sample_number sizes x) n c hc) ∙ ap (λ (v : ℕ). v / n) turned ∙ div-mul-add (sample_number sizes y) n e he in
+    let tails : x ≡ y =
+        number_fixed sizes x y (omega (arith, lx)) (omega (arith, ly)) (λ i h. hx (suc i) (omega (arith, h))) (λ i h. hy (suc i) (omega (arith, h)))
+            others in
     rw (first, tails) refl
 
 -- ---- midpoints
@@ -92,17 +99,14 @@ halves_long : (sizes m : List ℕ) → IsMidpoint sizes m → length (halves m) 
 halves_long sizes m is = length-map m (λ c. c / 2) ∙ is.long ∙ sym (length-map sizes (λ n. 2 * n))
 
 half_number : (sizes m : List ℕ) → IsMidpoint sizes m → sample_number (doubled sizes) (halves m) < 2 ^ length sizes * product sizes
-half_number sizes m is = subst (λ (p : ℕ). sample_number (doubled sizes) (halves m) < p) (product_doubled sizes) (number_in (doubled sizes) (halves m) (halves_long sizes m is) (halves_inside sizes m is))
+half_number sizes m is =
+    subst (λ (p : ℕ). sample_number (doubled sizes) (halves m) < p) (product_doubled sizes)
+        (number_in (doubled sizes) (halves m) (halves_long sizes m is) (halves_inside sizes m is))
 
 sixteen : (d p : ℕ) → IsDimension d → 2 ^ d * p ≤ 16 * p
 sixteen d p (inl e) = rw e (omega arith)
 sixteen d p (inr (inl e)) = rw e (omega arith)
 sixteen d p (inr (inr e)) = rw e (omega arith)
-
-two_or_more : (d : ℕ) → IsDimension d → 0 < d
-two_or_more d (inl e) = omega (arith, e)
-two_or_more d (inr (inl e)) = omega (arith, e)
-two_or_more d (inr (inr e)) = omega (arith, e)
 
 eight_in_three : (d p : ℕ) → d ≡ 3 → 2 ^ d * p ≡ 8 * p
 eight_in_three d p e = rw e refl
@@ -117,17 +121,27 @@ number_few : (sizes m : List ℕ) → IsDimension (length sizes) → product siz
 number_few sizes m d few is =
     let below = half_number sizes m is in
     elim is.parity as (λ _. number sizes m < 2147483648) [
-      | inl even ↦ let first : slice_index m 0 % 2 ≡ 0 = even 0 (two_or_more (length sizes) d) in omega (arith, even_number sizes m first, below, sixteen (length sizes) (product sizes) d, few)
-      | inr odd ↦ let first : slice_index m 0 % 2 ≡ 1 = odd.1 0 (two_or_more (length sizes) d) in omega (arith, odd_number sizes m first, below, eight_in_three (length sizes) (product sizes) odd.0, few)
+      | inl even ↦
+          let first : slice_index m 0 % 2 ≡ 0 = even 0 (some_axes (length sizes) d) in
+          omega (arith, even_number sizes m first, below, sixteen (length sizes) (product sizes) d, few)
+      | inr odd ↦
+          let first : slice_index m 0 % 2 ≡ 1 = odd.1 0 (some_axes (length sizes) d) in
+          omega (arith, odd_number sizes m first, below, eight_in_three (length sizes) (product sizes) odd.0, few)
     ]
 
 -- halves and parities fix a midpoint
-from_halves : (sizes m n : List ℕ) → IsMidpoint sizes m → IsMidpoint sizes n → sample_number (doubled sizes) (halves m) ≡ sample_number (doubled sizes) (halves n) → ((i : ℕ) → i < length sizes → slice_index m i % 2 ≡ slice_index n i % 2) → m ≡ n
+from_halves : (sizes m n : List ℕ) → IsMidpoint sizes m → IsMidpoint sizes n
+    → sample_number (doubled sizes) (halves m) ≡ sample_number (doubled sizes) (halves n)
+    → ((i : ℕ) → i < length sizes → slice_index m i % 2 ≡ slice_index n i % 2) → m ≡ n
 from_halves sizes m n im jn same parities =
-    let equal : halves m ≡ halves n = number_fixed (doubled sizes) (halves m) (halves n) (halves_long sizes m im) (halves_long sizes n jn) (halves_inside sizes m im) (halves_inside sizes n jn) same in
+    let equal : halves m ≡ halves n =
+        number_fixed (doubled sizes) (halves m) (halves n) (halves_long sizes m im) (halves_long sizes n jn) (halves_inside sizes m im)
+            (halves_inside sizes n jn) same in
     lists_same m n (im.long ∙ sym jn.long) (λ i h.
     let below : i < length sizes = omega (arith, h, im.long) in
-    let half : slice_index m i / 2 ≡ slice_index n i / 2 = sym (get_or-map (λ c. c / 2) m i 0 0 h) ∙ ap (λ (xs : List ℕ). slice_index xs i) equal ∙ get_or-map (λ c. c / 2) n i 0 0 (omega (arith, below, jn.long)) in
+    let half : slice_index m i / 2 ≡ slice_index n i / 2 =
+        sym (get_or-map (λ c. c / 2) m i 0 0 h) ∙ ap (λ (xs : List ℕ). slice_index xs i) equal
+            ∙ get_or-map (λ c. c / 2) n i 0 0 (omega (arith, below, jn.long)) in
     let left : slice_index m i % 2 ≡ slice_index n i % 2 = parities i below in
     omega (arith, half, left))
 
@@ -136,9 +150,11 @@ number_own : (sizes m n : List ℕ) → IsDimension (length sizes) → IsMidpoin
 number_own sizes m n d im jn same = go im.parity jn.parity
   where
     some : 0 < length sizes
-    some = two_or_more (length sizes) d
+    some = some_axes (length sizes) d
 
-    go : ((i : ℕ) → i < length sizes → slice_index m i % 2 ≡ 0) ⊎ ((length sizes ≡ 3) × ((i : ℕ) → i < length sizes → slice_index m i % 2 ≡ 1)) → ((i : ℕ) → i < length sizes → slice_index n i % 2 ≡ 0) ⊎ ((length sizes ≡ 3) × ((i : ℕ) → i < length sizes → slice_index n i % 2 ≡ 1)) → m ≡ n
+    go : ((i : ℕ) → i < length sizes → slice_index m i % 2 ≡ 0) ⊎ ((length sizes ≡ 3) × ((i : ℕ) → i < length sizes → slice_index m i % 2 ≡ 1))
+        → ((i : ℕ) → i < length sizes → slice_index n i % 2 ≡ 0) ⊎ ((length sizes ≡ 3) × ((i : ℕ) → i < length sizes → slice_index n i % 2 ≡ 1))
+        → m ≡ n
     go (inl even) (inl other) =
         from_halves sizes m n im jn (sym (even_number sizes m (even 0 some)) ∙ same ∙ even_number sizes n (other 0 some)) (λ i h. even i h ∙ sym (other i h))
     go (inr odd) (inr other) =
@@ -172,8 +188,10 @@ sum_even x a b same = omega (arith, same)
 sum_odd : (x a b : ℕ) → a % 2 + b % 2 ≡ 1 → ((2 * x + a) + (2 * x + b)) % 2 ≡ 1
 sum_odd x a b one = omega (arith, one)
 
-pub edge_midpoint : (kind : Kind) (sizes : List ℕ) (cell k : ℕ) → IsDimension (length sizes) → HasDimension kind (length sizes) → cell < cell_count kind sizes → 0 < cells_per_cube kind (length sizes) →
-    (edge_ends kind (length sizes) k).0 < corner_count kind (length sizes) → (edge_ends kind (length sizes) k).1 < corner_count kind (length sizes) → IsMidpoint sizes (midpoint (Splits.edge kind sizes cell k))
+pub edge_midpoint : (kind : Kind) (sizes : List ℕ) (cell k : ℕ) → IsDimension (length sizes) → HasDimension kind (length sizes)
+    → cell < cell_count kind sizes → 0 < cells_per_cube kind (length sizes) →
+    (edge_ends kind (length sizes) k).0 < corner_count kind (length sizes) → (edge_ends kind (length sizes) k).1 < corner_count kind (length sizes)
+        → IsMidpoint sizes (midpoint (Splits.edge kind sizes cell k))
 edge_midpoint kind sizes cell k is has hc some first second =
     let d : ℕ = length sizes in
     let ends = edge_ends kind d k in
@@ -183,7 +201,8 @@ edge_midpoint kind sizes cell k is has hc some first second =
     let b : List ℕ = corner_offset kind d rank ends.1 in
     let m : List ℕ = midpoint (Splits.edge kind sizes cell k) in
     let at : (i : ℕ) → i < d → slice_index m i ≡ (2 * slice_index x i + slice_index a i) + (2 * slice_index x i + slice_index b i) = λ i h.
-    sum_of_ends (corner kind sizes cell ends.0) (corner kind sizes cell ends.1) i (omega (arith, h, length-corner kind sizes cell ends.0)) (length-corner kind sizes cell ends.0 ∙ sym (length-corner kind sizes cell ends.1))
+    sum_of_ends (corner kind sizes cell ends.0) (corner kind sizes cell ends.1) i (omega (arith, h, length-corner kind sizes cell ends.0))
+        (length-corner kind sizes cell ends.0 ∙ sym (length-corner kind sizes cell ends.1))
     ∙ ap (λ (c : ℕ). c + slice_index (corner kind sizes cell ends.1) i) (coordinate d (λ i. 2 * slice_index x i + slice_index a i) i h)
     ∙ ap (λ (c : ℕ). (2 * slice_index x i + slice_index a i) + c) (coordinate d (λ i. 2 * slice_index x i + slice_index b i) i h) in
     let below : (i : ℕ) → i < d → slice_index x i + 1 < slice_index sizes i = cube_below sizes (cell / cells_per_cube kind d) (cube_in kind sizes cell hc) in
@@ -193,14 +212,43 @@ edge_midpoint kind sizes cell k is has hc some first second =
     record {
       long = length-edge kind sizes cell k;
       inside = λ i h. rw (at i h) (sum_inside (slice_index x i) (slice_index a i) (slice_index b i) (slice_index sizes i) (small_a i) (small_b i) (below i h));
-      parity = elim (offset_case kind d rank ends.0 has) as (λ _. ((i : ℕ) → i < d → slice_index m i % 2 ≡ 0) ⊎ ((d ≡ 3) × ((i : ℕ) → i < d → slice_index m i % 2 ≡ 1))) [
-        | inl even ↦ elim (offset_case kind d rank ends.1 has) as (λ _. ((i : ℕ) → i < d → slice_index m i % 2 ≡ 0) ⊎ ((d ≡ 3) × ((i : ℕ) → i < d → slice_index m i % 2 ≡ 1))) [
-          | inl other ↦ inl (λ i h. let ea : slice_index a i % 2 ≡ 0 = even i h in let eb : slice_index b i % 2 ≡ 0 = other i h in rw (at i h) (sum_even (slice_index x i) (slice_index a i) (slice_index b i) (ea ∙ sym eb)))
-          | inr centre ↦ inr (centre.0, λ i h. let ea : slice_index a i % 2 ≡ 0 = even i h in let eb : slice_index b i ≡ 1 = centre.1 i (omega (arith, h, centre.0)) in rw (at i h) (sum_odd (slice_index x i) (slice_index a i) (slice_index b i) (omega (arith, ea, eb))))
+      parity = elim (offset_case kind d rank ends.0 has) as
+          (λ _. ((i : ℕ) → i < d → slice_index m i % 2 ≡ 0) ⊎ ((d ≡ 3) × ((i : ℕ) → i < d → slice_index m i % 2 ≡ 1))) [
+        | inl even ↦ elim (offset_case kind d rank ends.1 has) as
+            (λ _. ((i : ℕ) → i < d → slice_index m i % 2 ≡ 0) ⊎ ((d ≡ 3) × ((i : ℕ) → i < d → slice_index m i % 2 ≡ 1))) [
+          | inl other ↦
+              inl
+                  (λ i h.
+                       let ea : slice_index a i % 2 ≡ 0 = even i h in
+                       let eb : slice_index b i % 2 ≡ 0 = other i h in
+                       rw (at i h) (sum_even (slice_index x i) (slice_index a i) (slice_index b i) (ea ∙ sym eb)))
+          | inr centre ↦
+              inr
+                  (
+                    centre.0,
+                    λ i h.
+                        let ea : slice_index a i % 2 ≡ 0 = even i h in
+                        let eb : slice_index b i ≡ 1 = centre.1 i (omega (arith, h, centre.0)) in
+                        rw (at i h) (sum_odd (slice_index x i) (slice_index a i) (slice_index b i) (omega (arith, ea, eb)))
+                  )
         ]
-        | inr centre ↦ elim (offset_case kind d rank ends.1 has) as (λ _. ((i : ℕ) → i < d → slice_index m i % 2 ≡ 0) ⊎ ((d ≡ 3) × ((i : ℕ) → i < d → slice_index m i % 2 ≡ 1))) [
-          | inl other ↦ inr (centre.0, λ i h. let ea : slice_index a i ≡ 1 = centre.1 i (omega (arith, h, centre.0)) in let eb : slice_index b i % 2 ≡ 0 = other i h in rw (at i h) (sum_odd (slice_index x i) (slice_index a i) (slice_index b i) (omega (arith, ea, eb))))
-          | inr other ↦ inl (λ i h. let ea : slice_index a i ≡ 1 = centre.1 i (omega (arith, h, centre.0)) in let eb : slice_index b i ≡ 1 = other.1 i (omega (arith, h, centre.0)) in rw (at i h) (sum_even (slice_index x i) (slice_index a i) (slice_index b i) (ap (λ (n : ℕ). n % 2) (ea ∙ sym eb))))
+        | inr centre ↦ elim (offset_case kind d rank ends.1 has) as
+            (λ _. ((i : ℕ) → i < d → slice_index m i % 2 ≡ 0) ⊎ ((d ≡ 3) × ((i : ℕ) → i < d → slice_index m i % 2 ≡ 1))) [
+          | inl other ↦
+              inr
+                  (
+                    centre.0,
+                    λ i h.
+                        let ea : slice_index a i ≡ 1 = centre.1 i (omega (arith, h, centre.0)) in
+                        let eb : slice_index b i % 2 ≡ 0 = other i h in
+                        rw (at i h) (sum_odd (slice_index x i) (slice_index a i) (slice_index b i) (omega (arith, ea, eb)))
+                  )
+          | inr other ↦
+              inl
+                  (λ i h.
+                       let ea : slice_index a i ≡ 1 = centre.1 i (omega (arith, h, centre.0)) in
+                       let eb : slice_index b i ≡ 1 = other.1 i (omega (arith, h, centre.0)) in
+                       rw (at i h) (sum_even (slice_index x i) (slice_index a i) (slice_index b i) (ap (λ (n : ℕ). n % 2) (ea ∙ sym eb))))
         ]
       ];
     }
@@ -211,16 +259,22 @@ edge_midpoint kind sizes cell k is has hc some first second =
 abbrev pub IsGridEdge : Kind → List ℕ → Splits.Edge → Type 0
 IsGridEdge kind sizes e = (cell : ℕ) × (cell < cell_count kind sizes) × HasEdge kind sizes cell e
 
-pub grid_edge_midpoint : (kind : Kind) (sizes : List ℕ) (e : Splits.Edge) → IsDimension (length sizes) → HasDimension kind (length sizes) → 0 < cells_per_cube kind (length sizes) →
-    ((k : ℕ) → k < edge_count kind (length sizes) → ((edge_ends kind (length sizes) k).0 < corner_count kind (length sizes)) × ((edge_ends kind (length sizes) k).1 < corner_count kind (length sizes))) →
+pub grid_edge_midpoint : (kind : Kind) (sizes : List ℕ) (e : Splits.Edge) → IsDimension (length sizes) → HasDimension kind (length sizes)
+    → 0 < cells_per_cube kind (length sizes) →
+    ((k : ℕ) → k < edge_count kind (length sizes)
+         → ((edge_ends kind (length sizes) k).0 < corner_count kind (length sizes))
+               × ((edge_ends kind (length sizes) k).1 < corner_count kind (length sizes)))
+        →
     IsGridEdge kind sizes e → IsMidpoint sizes (midpoint e)
 grid_edge_midpoint kind sizes e is has some ends r =
     let k : ℕ = r.2.0 in
     let here = ends k r.2.1 in
     subst (λ (d : Splits.Edge). IsMidpoint sizes (midpoint d)) r.2.2 (edge_midpoint kind sizes r.0 k is has r.1 some here.0 here.1)
 
-pub few_edges : {D : ℕ} (kind : Kind) (sizes : List ℕ) (keys : List (Edge D)) → IsDimension (length sizes) → product sizes ≤ 134217728 → HaveOwnMidpoints kind sizes →
-    ((e : Splits.Edge) → Contains (edges_of keys) e → IsGridEdge kind sizes e) → ((e : Splits.Edge) → Contains (edges_of keys) e → IsMidpoint sizes (midpoint e)) →
+pub few_edges : {D : ℕ} (kind : Kind) (sizes : List ℕ) (keys : List (Edge D)) → IsDimension (length sizes) → product sizes ≤ 134217728
+    → HaveOwnMidpoints kind sizes →
+    ((e : Splits.Edge) → Contains (edges_of keys) e → IsGridEdge kind sizes e)
+        → ((e : Splits.Edge) → Contains (edges_of keys) e → IsMidpoint sizes (midpoint e)) →
     ((i j : ℕ) (d : Edge D) → i < j → j < length keys → slice_index_or keys i d ≡ slice_index_or keys j d → ⊥) → length keys < 4294967296
 few_edges kind sizes [] is few own has mid apart = omega arith
 few_edges {D} kind sizes (x ∷ keys) is few own has mid apart =
@@ -229,23 +283,35 @@ few_edges {D} kind sizes (x ∷ keys) is few own has mid apart =
     omega (arith, bound, length-map (x ∷ keys) (λ (e : Edge D). number sizes (midpoint (edge_of e))))
   where
     member : (i : ℕ) → i < length (x ∷ keys) → Contains (edges_of (x ∷ keys)) (edge_of (slice_index_or (x ∷ keys) i x))
-    member i h = subst (Contains (edges_of (x ∷ keys))) (get_or-map (edge_of {D = D}) (x ∷ keys) i x (edge_of x) h) (Contains-at (edges_of (x ∷ keys)) i (edge_of x) (omega (arith, h, length-map (x ∷ keys) (edge_of {D = D}))))
+    member i h =
+        subst (Contains (edges_of (x ∷ keys))) (get_or-map (edge_of {D = D}) (x ∷ keys) i x (edge_of x) h)
+            (Contains-at (edges_of (x ∷ keys)) i (edge_of x) (omega (arith, h, length-map (x ∷ keys) (edge_of {D = D}))))
 
-    numbered : (i d : ℕ) → i < length (x ∷ keys) → slice_index_or (map (λ (e : Edge D). number sizes (midpoint (edge_of e))) (x ∷ keys)) i d ≡ number sizes (midpoint (edge_of (slice_index_or (x ∷ keys) i x)))
+    numbered : (i d : ℕ) → i < length (x ∷ keys)
+        → slice_index_or (map (λ (e : Edge D). number sizes (midpoint (edge_of e))) (x ∷ keys)) i d
+              ≡ number sizes (midpoint (edge_of (slice_index_or (x ∷ keys) i x)))
     numbered i d h = get_or-map (λ (e : Edge D). number sizes (midpoint (edge_of e))) (x ∷ keys) i x d h
 
-    same_edges : (i j : ℕ) → i < length (x ∷ keys) → j < length (x ∷ keys) → number sizes (midpoint (edge_of (slice_index_or (x ∷ keys) i x))) ≡ number sizes (midpoint (edge_of (slice_index_or (x ∷ keys) j x))) → slice_index_or (x ∷ keys) i x ≡ slice_index_or (x ∷ keys) j x
+    same_edges : (i j : ℕ) → i < length (x ∷ keys) → j < length (x ∷ keys)
+        → number sizes (midpoint (edge_of (slice_index_or (x ∷ keys) i x))) ≡ number sizes (midpoint (edge_of (slice_index_or (x ∷ keys) j x)))
+        → slice_index_or (x ∷ keys) i x ≡ slice_index_or (x ∷ keys) j x
     same_edges i j hi hj same =
         let a : Edge D = slice_index_or (x ∷ keys) i x in
         let b : Edge D = slice_index_or (x ∷ keys) j x in
         let ha = has (edge_of a) (member i hi) in
         let hb = has (edge_of b) (member j hj) in
-        let one : edge_of a ≡ edge_of b = own ha.0 hb.0 (edge_of a) (edge_of b) ha.1 hb.1 ha.2 hb.2 (number_own sizes (midpoint (edge_of a)) (midpoint (edge_of b)) is (mid (edge_of a) (member i hi)) (mid (edge_of b) (member j hj)) same) in
+        let one : edge_of a ≡ edge_of b =
+            own ha.0 hb.0 (edge_of a) (edge_of b) ha.1 hb.1 ha.2 hb.2
+                (number_own sizes (midpoint (edge_of a)) (midpoint (edge_of b)) is (mid (edge_of a) (member i hi)) (mid (edge_of b) (member j hj))
+                     same) in
         let low : a.low ≡ b.low = ap (λ (e : Splits.Edge). e.low) one in
         let high : a.high ≡ b.high = ap (λ (e : Splits.Edge). e.high) one in
         λ t. record { low = low t; high = high t }
 
-    differ : (i j d : ℕ) → i < j → j < length (map (λ (e : Edge D). number sizes (midpoint (edge_of e))) (x ∷ keys)) → eqb (slice_index_or (map (λ (e : Edge D). number sizes (midpoint (edge_of e))) (x ∷ keys)) i d) (slice_index_or (map (λ (e : Edge D). number sizes (midpoint (edge_of e))) (x ∷ keys)) j d) ≡ false
+    differ : (i j d : ℕ) → i < j → j < length (map (λ (e : Edge D). number sizes (midpoint (edge_of e))) (x ∷ keys))
+        → eqb (slice_index_or (map (λ (e : Edge D). number sizes (midpoint (edge_of e))) (x ∷ keys)) i d)
+              (slice_index_or (map (λ (e : Edge D). number sizes (midpoint (edge_of e))) (x ∷ keys)) j d)
+              ≡ false
     differ i j d less hj =
         let inside : j < length (x ∷ keys) = omega (arith, hj, length-map (x ∷ keys) (λ (e : Edge D). number sizes (midpoint (edge_of e)))) in
         let first : i < length (x ∷ keys) = omega (arith, inside, less) in
@@ -261,7 +327,11 @@ few_edges {D} kind sizes (x ∷ keys) is few own has mid apart =
     below q h =
         let any = Any-from_list_any (eqb q) (map (λ (e : Edge D). number sizes (midpoint (edge_of e))) (x ∷ keys)) h in
         let k : ℕ = any.0 in
-        let inside : k < length (x ∷ keys) = let there : any.0 < length (map (λ (e : Edge D). number sizes (midpoint (edge_of e))) (x ∷ keys)) = any.2 in omega (arith, there, length-map (x ∷ keys) (λ (e : Edge D). number sizes (midpoint (edge_of e)))) in
+        let inside : k < length (x ∷ keys) =
+            let there : any.0 < length (map (λ (e : Edge D). number sizes (midpoint (edge_of e))) (x ∷ keys)) = any.2 in
+            omega (arith, there, length-map (x ∷ keys) (λ (e : Edge D). number sizes (midpoint (edge_of e)))) in
         let is_q : q ≡ number sizes (midpoint (edge_of (slice_index_or (x ∷ keys) k x))) = eqb-true q any.1 any.4 ∙ sym any.3 ∙ numbered k any.1 inside in
-        let small : number sizes (midpoint (edge_of (slice_index_or (x ∷ keys) k x))) < 2147483648 = number_few sizes (midpoint (edge_of (slice_index_or (x ∷ keys) k x))) is few (mid (edge_of (slice_index_or (x ∷ keys) k x)) (member k inside)) in
+        let small : number sizes (midpoint (edge_of (slice_index_or (x ∷ keys) k x))) < 2147483648 =
+            number_few sizes (midpoint (edge_of (slice_index_or (x ∷ keys) k x))) is few
+                (mid (edge_of (slice_index_or (x ∷ keys) k x)) (member k inside)) in
         omega (arith, is_q, small)

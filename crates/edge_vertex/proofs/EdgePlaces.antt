@@ -7,20 +7,16 @@ use Rattle.std.proofs.lemmas.Bool.Decides.{nat_tests}
 use Rattle.std.proofs.lemmas.Slice.Eq.{bytes_eq-Decides}
 use borrow.Author.Tests.{ltb-true}
 use Rattle.grid_split.specs.declared.split.Edge.{Edge}
-use Rattle.iso_model.specs.Orders.{same_list}
+use Rattle.lists.specs.Orders.{same_list}
 use Rattle.iso_model.specs.Bipolar.{same_edge, place_in}
-use Rattle.split_laws.proofs.Members.{and_left, and_right}
 use Rattle.edge_vertex.specs.EdgeValue.{edge_of, edges_of}
+use Rattle.lists.proofs.Tests.{same_tests, and_left, and_right}
 
 -- a test carried over a map gives the same place
-pub place_same : {A B : Type 0} (E : A → Bool) (S : B → Bool) (f : A → B) → ((y : A) → E y ≡ S (f y)) → (xs : List A) → position_or_len E xs ≡ position_or_len S (map f xs)
+pub place_same : {A B : Type 0} (E : A → Bool) (S : B → Bool) (f : A → B) → ((y : A) → E y ≡ S (f y)) → (xs : List A)
+    → position_or_len E xs ≡ position_or_len S (map f xs)
 place_same E S f same [] = refl
 place_same E S f same (x ∷ xs) = rw (same x, place_same E S f same xs) refl
-
-pub bools_same : (a b : Bool) → (a ≡ true → b ≡ true) → (b ≡ true → a ≡ true) → a ≡ b
-bools_same true b f g = sym (f refl)
-bools_same false true f g = absurd (false≢true (g refl))
-bools_same false false f g = refl
 
 -- two edges are the same where their ends are
 pub same_ends : {D : ℕ} (x y : Edge D) → same_edge (edge_of x) (edge_of y) ≡ true → x ≡ y
@@ -36,9 +32,11 @@ edge_itself x y e =
     rw (low, high) refl
 
 -- a test of equality gives the place of the edge
-pub edge_place : {D : ℕ} (E : Edge D → Bool) (x : Edge D) (xs : List (Edge D)) → ((y : Edge D) → E y ≡ true → x ≡ y) → ((y : Edge D) → x ≡ y → E y ≡ true) → position_or_len E xs ≡ place_in (edges_of xs) (edge_of x)
+pub edge_place : {D : ℕ} (E : Edge D → Bool) (x : Edge D) (xs : List (Edge D)) → ((y : Edge D) → E y ≡ true → x ≡ y)
+    → ((y : Edge D) → x ≡ y → E y ≡ true) → position_or_len E xs ≡ place_in (edges_of xs) (edge_of x)
 edge_place E x xs same itself =
-    place_same E (same_edge (edge_of x)) edge_of (λ y. bools_same (E y) (same_edge (edge_of x) (edge_of y)) (λ h. edge_itself x y (same y h)) (λ h. itself y (same_ends x y h))) xs
+    place_same E (same_edge (edge_of x)) edge_of
+        (λ y. same_tests (E y) (same_edge (edge_of x) (edge_of y)) (λ h. edge_itself x y (same y h)) (λ h. itself y (same_ends x y h))) xs
 
 abbrev pub nothing : Option ℕ
 nothing = None

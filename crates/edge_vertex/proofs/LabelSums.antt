@@ -2,31 +2,25 @@
 use Rattle.std.proofs.Common.{◌≡◌, ℕ, ◌+◌, ◌^◌, ◌<◌, Bool, true, false, length, refl, ap, sym, ◌∙◌}
 use Rattle.std.specs.Prelude.{if◌then◌else◌, ◌==◌}
 use Rattle.std.specs.Int.{bit_at}
-use Rattle.iso_model.specs.Cells.{is_set, corner_count}
+use Rattle.iso_model.specs.Cells.{corner_count}
 use Rattle.iso_model.specs.Splits.{corner}
 use Rattle.iso_model.specs.Values.{Volume, positive_at, label_of}
-use Rattle.mixed_cubes.proofs.Powers.{powers_below, powers_more, powers_few, powers_bits}
+use Rattle.lists.specs.Bits.{is_set}
+use Rattle.lists.proofs.Powers.{powers_below, powers_more, powers_few, powers_bits}
+use Rattle.lists.proofs.Bits.{bit_is_test}
 
 pub label_few : (v : Volume) (cell : ℕ) → label_of v cell < 2 ^ corner_count v.kind (length v.sizes)
 unfolding label_of
 label_few v cell = powers_few (λ k. positive_at v (corner v.kind v.sizes cell k)) (corner_count v.kind (length v.sizes))
 
-set_of : (b : Bool) (n : ℕ) → n ≡ (if b then 1 else 0) → (n == 1) ≡ b
-set_of true n e = rw e refl
-set_of false n e = rw e refl
-
--- bit k of the label of a cell is set where corner k is positive
-pub label_bits : (v : Volume) (cell k : ℕ) → k < corner_count v.kind (length v.sizes) → is_set (label_of v cell) k ≡ positive_at v (corner v.kind v.sizes cell k)
-unfolding label_of
-label_bits v cell k h =
-    set_of (positive_at v (corner v.kind v.sizes cell k)) (bit_at (powers_below (λ j. positive_at v (corner v.kind v.sizes cell j)) (corner_count v.kind (length v.sizes))) k)
-    (powers_bits (λ j. positive_at v (corner v.kind v.sizes cell j)) (corner_count v.kind (length v.sizes)) k h)
-
 -- one corner more
-pub next_label : (F : ℕ → Bool) (n label next : ℕ) (b : Bool) → label ≡ powers_below F n → b ≡ F n → next ≡ label + (if b then 2 ^ n else 0) → next ≡ powers_below F (n + 1)
+pub next_label : (F : ℕ → Bool) (n label next : ℕ) (b : Bool) → label ≡ powers_below F n → b ≡ F n → next ≡ label + (if b then 2 ^ n else 0)
+    → next ≡ powers_below F (n + 1)
 next_label F n label next b label_is bit_is next_is =
-    next_is ∙ ap (λ (s : ℕ). s + (if b then 2 ^ n else 0)) label_is ∙ ap (λ (c : Bool). powers_below F n + (if c then 2 ^ n else 0)) bit_is ∙ sym (powers_more F n)
+    next_is ∙ ap (λ (s : ℕ). s + (if b then 2 ^ n else 0)) label_is ∙ ap (λ (c : Bool). powers_below F n + (if c then 2 ^ n else 0)) bit_is
+        ∙ sym (powers_more F n)
 
-pub whole_label : (v : Volume) (cell n label : ℕ) → n ≡ corner_count v.kind (length v.sizes) → label ≡ powers_below (λ k. positive_at v (corner v.kind v.sizes cell k)) n → label ≡ label_of v cell
+pub whole_label : (v : Volume) (cell n label : ℕ) → n ≡ corner_count v.kind (length v.sizes)
+    → label ≡ powers_below (λ k. positive_at v (corner v.kind v.sizes cell k)) n → label ≡ label_of v cell
 unfolding label_of
 whole_label v cell n label all is = is ∙ ap (powers_below (λ k. positive_at v (corner v.kind v.sizes cell k))) all

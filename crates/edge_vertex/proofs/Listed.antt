@@ -5,100 +5,48 @@ use Rattle.std.proofs.lemmas.Bool.{false≢true}
 use Rattle.std.specs.List.Sorted.{IsPermutation}
 use Rattle.std.proofs.lemmas.List.Sorted.{Contains-permutation, IsPermutation-sym}
 use Rattle.grid_split.specs.declared.split.Edge.{Edge}
-use Rattle.iso_model.specs.Orders.{numbers}
+use Rattle.lists.specs.Orders.{numbers}
 use Rattle.iso_model.specs.Points.{comes_first}
-use Rattle.iso_model.specs.Cells.{is_set, edge_ends, edge_count, corner_count}
+use Rattle.iso_model.specs.Cells.{edge_ends, edge_count, corner_count}
 use Rattle.iso_model.specs.Splits as Splits
 use Rattle.iso_model.specs.Splits.{corner, cell_count, edge_of_ends, midpoint}
 use Rattle.iso_model.specs.Neighbours.{HaveOwnMidpoints}
 use Rattle.iso_model.specs.Bipolar.{differ, is_bipolar, is_bipolar_in, cell_edges, kept_edges, bipolar_edges}
 use Rattle.iso_model.specs.Values.{Volume, cells, is_kept, positive_at, label_of}
-use Rattle.iso_model.proofs.Deciding.{contained_below}
-use Rattle.iso_model.proofs.FaceLaws.{Contains-head, Contains-tail, Contains-split, Contains-filter}
-use Rattle.iso_model.proofs.BipolarLaws.{Contains-map, kept_edge-has, length-edge, bipolar_edges-fixed}
+use Rattle.iso_model.proofs.BipolarLaws.{kept_edge-has, length-edge, bipolar_edges-fixed}
 use Rattle.edge_vertex.specs.EdgeValue.{edge_of, edges_of, IsBipolarEdge}
-use Rattle.edge_vertex.proofs.LabelSums.{label_bits}
 use Rattle.edge_vertex.proofs.Ascending.{SortedEdges, ascends}
-
-none : {X : Type 0} (x : X) → Contains [] x → ⊥
-none x c = let h : c.0 < 0 = c.1 in omega arith
+use Rattle.lists.specs.Bits.{is_set}
+use Rattle.lists.proofs.Contained.{Contains-head, Contains-tail, Contains-split, Contains-filter, contained_below, Contains-mapped, from_Contains-map}
+use Rattle.lists.proofs.Contained.{Contains-passes, Contains-filtered, Contains-joined, none_contained}
+use Rattle.iso_model.proofs.SignLaws.{differ-exchanged, either_order, label_bit}
 
 -- ---- members of lists that are made of others
 
-pub passes : {X : Type 0} (p : X → Bool) (xs : List X) (x : X) → Contains (filter p xs) x → p x ≡ true
-passes p [] x c = absurd (none x c)
-passes {X} p (y ∷ xs) x c = go (p y) refl (passes p xs x) c
-  where
-    go : (b : Bool) → p y ≡ b → (Contains (filter p xs) x → p x ≡ true) → Contains (if b then y ∷ filter p xs else filter p xs) x → p x ≡ true
-    go true e later c = elim (Contains-split x y (filter p xs) c) as (λ _. p x ≡ true) [ inl s ↦ ap p (sym s) ∙ e | inr m ↦ later m ]
-    go false e later c = later c
-
-pub filtered : {X : Type 0} (p : X → Bool) (xs : List X) (x : X) → p x ≡ true → Contains xs x → Contains (filter p xs) x
-filtered p [] x h c = absurd (none x c)
-filtered {X} p (y ∷ xs) x h c = go (p y) refl (Contains-split x y xs c) (filtered p xs x h)
-  where
-    go : (b : Bool) → p y ≡ b → (y ≡ x) ⊎ Contains xs x → (Contains xs x → Contains (filter p xs) x) → Contains (if b then y ∷ filter p xs else filter p xs) x
-    go true e (inl s) later = subst (Contains (y ∷ filter p xs)) s (Contains-head y (filter p xs))
-    go true e (inr m) later = Contains-tail x y (filter p xs) (later m)
-    go false e (inl s) later = absurd (false≢true (sym e ∙ ap p s ∙ h))
-    go false e (inr m) later = later m
-
-mapped : {X Y : Type 0} (f : X → Y) (xs : List X) (x : X) → Contains xs x → Contains (map f xs) (f x)
-mapped f [] x c = absurd (none x c)
-mapped f (y ∷ xs) x c = elim (Contains-split x y xs c) as (λ _. Contains (map f (y ∷ xs)) (f x)) [
-  | inl s ↦ subst (λ z. Contains (map f (y ∷ xs)) (f z)) s (Contains-head (f y) (map f xs))
-  | inr m ↦ Contains-tail (f x) (f y) (map f xs) (mapped f xs x m)
-]
-
-in_front : {X : Type 0} (xs ys : List X) (z : X) → Contains xs z → Contains (xs ++ ys) z
-in_front [] ys z c = absurd (none z c)
-in_front (x ∷ xs) ys z c = elim (Contains-split z x xs c) as (λ _. Contains (x ∷ (xs ++ ys)) z) [
-  | inl s ↦ subst (Contains (x ∷ (xs ++ ys))) s (Contains-head x (xs ++ ys))
-  | inr m ↦ Contains-tail z x (xs ++ ys) (in_front xs ys z m)
-]
-
-behind : {X : Type 0} (xs ys : List X) (z : X) → Contains ys z → Contains (xs ++ ys) z
-behind [] ys z c = c
-behind (x ∷ xs) ys z c = Contains-tail z x (xs ++ ys) (behind xs ys z c)
-
-joined : {X Y : Type 0} (f : X → List Y) (xs : List X) (x : X) (z : Y) → Contains xs x → Contains (f x) z → Contains (flat_map f xs) z
-joined f [] x z c m = absurd (none x c)
-joined f (y ∷ xs) x z c m = elim (Contains-split x y xs c) as (λ _. Contains (f y ++ flat_map f xs) z) [
-  | inl s ↦ in_front (f y) (flat_map f xs) z (subst (λ w. Contains (f w) z) (sym s) m)
-  | inr n ↦ behind (f y) (flat_map f xs) z (joined f xs x z n m)
-]
-
 -- ---- an edge is bipolar where it is in the label
 
-exchanged : (a b : Bool) → differ b a ≡ differ a b
-exchanged true true = refl
-exchanged true false = refl
-exchanged false true = refl
-exchanged false false = refl
-
-either_order : (v : Volume) (p q : List ℕ) → is_bipolar v (edge_of_ends p q) ≡ differ (positive_at v p) (positive_at v q)
-either_order v p q = go (comes_first p q)
-  where
-    go : (b : Bool) → is_bipolar v (if b then record { low = p; high = q } else record { low = q; high = p }) ≡ differ (positive_at v p) (positive_at v q)
-    go true = refl
-    go false = exchanged (positive_at v p) (positive_at v q)
-
-in_label : (v : Volume) (cell e : ℕ) → (edge_ends v.kind (length v.sizes) e).0 < corner_count v.kind (length v.sizes) → (edge_ends v.kind (length v.sizes) e).1 < corner_count v.kind (length v.sizes)
+in_label : (v : Volume) (cell e : ℕ) → (edge_ends v.kind (length v.sizes) e).0 < corner_count v.kind (length v.sizes)
+    → (edge_ends v.kind (length v.sizes) e).1 < corner_count v.kind (length v.sizes)
     → is_bipolar v (Splits.edge v.kind v.sizes cell e) ≡ is_bipolar_in v.kind (length v.sizes) (label_of v cell) e
 in_label v cell e h k =
     let ends = edge_ends v.kind (length v.sizes) e in
     either_order v (corner v.kind v.sizes cell ends.0) (corner v.kind v.sizes cell ends.1)
-    ∙ ap (λ (b : Bool). differ b (positive_at v (corner v.kind v.sizes cell ends.1))) (sym (label_bits v cell ends.0 h))
-    ∙ ap (λ (b : Bool). differ (is_set (label_of v cell) ends.0) b) (sym (label_bits v cell ends.1 k))
+    ∙ ap (λ (b : Bool). differ b (positive_at v (corner v.kind v.sizes cell ends.1))) (sym (label_bit v cell ends.0 h))
+    ∙ ap (λ (b : Bool). differ (is_set (label_of v cell) ends.0) b) (sym (label_bit v cell ends.1 k))
 
 -- ---- the list
 
 all_cells : (v : Volume) (cell : ℕ) → ((x : List ℕ) → v.kept x ≡ true) → cell < cell_count v.kind v.sizes → Contains (cells v) cell
 unfolding cells
-all_cells v cell kept h = filtered (is_kept v) (numbers (cell_count v.kind v.sizes)) cell (kept (Splits.cube_of v.kind v.sizes cell)) (contained_below (cell_count v.kind v.sizes) cell h)
+all_cells v cell kept h =
+    Contains-filtered (is_kept v) (numbers (cell_count v.kind v.sizes)) cell (kept (Splits.cube_of v.kind v.sizes cell))
+        (contained_below (cell_count v.kind v.sizes) cell h)
 
 module _ (v : Volume) (n : ℕ) (edges_are : n ≡ edge_count v.kind (length v.sizes)) (kept : (x : List ℕ) → v.kept x ≡ true)
-    (inside : (e : ℕ) → e < edge_count v.kind (length v.sizes) → ((edge_ends v.kind (length v.sizes) e).0 < corner_count v.kind (length v.sizes)) × ((edge_ends v.kind (length v.sizes) e).1 < corner_count v.kind (length v.sizes))) where
+    (inside : (e : ℕ) → e < edge_count v.kind (length v.sizes)
+         → ((edge_ends v.kind (length v.sizes) e).0 < corner_count v.kind (length v.sizes))
+               × ((edge_ends v.kind (length v.sizes) e).1 < corner_count v.kind (length v.sizes)))
+        where
   listed : (e : Splits.Edge) → IsBipolarEdge v n (cell_count v.kind v.sizes) e → Contains (filter (is_bipolar v) (kept_edges v)) e
   listed e r =
       let cell : ℕ = r.0 in
@@ -107,8 +55,11 @@ module _ (v : Volume) (n : ℕ) (edges_are : n ≡ edge_count v.kind (length v.s
       let ends = inside k hk in
       let is : Splits.edge v.kind v.sizes cell k ≡ e = r.2.2.1 in
       let bipolar : is_bipolar v e ≡ true = ap (is_bipolar v) (sym is) ∙ in_label v cell k ends.0 ends.1 ∙ r.2.2.0 in
-      let in_cell : Contains (cell_edges v cell) e = subst (Contains (cell_edges v cell)) is (mapped (Splits.edge v.kind v.sizes cell) (numbers (edge_count v.kind (length v.sizes))) k (contained_below (edge_count v.kind (length v.sizes)) k hk)) in
-      filtered (is_bipolar v) (kept_edges v) e bipolar (joined (cell_edges v) (cells v) cell e (all_cells v cell kept r.1) in_cell)
+      let in_cell : Contains (cell_edges v cell) e =
+          subst (Contains (cell_edges v cell)) is
+              (Contains-mapped (Splits.edge v.kind v.sizes cell) (numbers (edge_count v.kind (length v.sizes))) k
+                   (contained_below (edge_count v.kind (length v.sizes)) k hk)) in
+      Contains-filtered (is_bipolar v) (kept_edges v) e bipolar (Contains-joined (cell_edges v) (cells v) cell e (all_cells v cell kept r.1) in_cell)
 
   found : (e : Splits.Edge) → Contains (filter (is_bipolar v) (kept_edges v)) e → IsBipolarEdge v n (cell_count v.kind v.sizes) e
   found e c =
@@ -116,12 +67,16 @@ module _ (v : Volume) (n : ℕ) (edges_are : n ≡ edge_count v.kind (length v.s
       let k : ℕ = has.2.0 in
       let ends = inside k has.2.1 in
       let bipolar : is_bipolar_in v.kind (length v.sizes) (label_of v has.0) k ≡ true =
-      sym (in_label v has.0 k ends.0 ends.1) ∙ ap (is_bipolar v) has.2.2 ∙ passes (is_bipolar v) (kept_edges v) e c in
+      sym (in_label v has.0 k ends.0 ends.1) ∙ ap (is_bipolar v) has.2.2 ∙ Contains-passes (is_bipolar v) (kept_edges v) e c in
       (has.0, has.1, (k, subst (λ (m : ℕ). k < m) (sym edges_are) has.2.1, (bipolar, has.2.2)))
 
-  pub are_listed : {D : ℕ} (keys : List (Edge D)) → HaveOwnMidpoints v.kind v.sizes → ((e : Splits.Edge) → Contains (edges_of keys) e ↔ IsBipolarEdge v n (cell_count v.kind v.sizes) e) → SortedEdges keys → edges_of keys ≡ bipolar_edges v
+  pub are_listed : {D : ℕ} (keys : List (Edge D)) → HaveOwnMidpoints v.kind v.sizes
+      → ((e : Splits.Edge) → Contains (edges_of keys) e ↔ IsBipolarEdge v n (cell_count v.kind v.sizes) e) → SortedEdges keys
+      → edges_of keys ≡ bipolar_edges v
   are_listed keys own members sorted =
-      let has = λ (e : Splits.Edge) (c : Contains (edges_of keys) e). kept_edge-has v e (Contains-filter (is_bipolar v) (kept_edges v) e (listed e ((members e).0 c))) in
+      let has =
+          λ (e : Splits.Edge) (c : Contains (edges_of keys) e).
+              kept_edge-has v e (Contains-filter (is_bipolar v) (kept_edges v) e (listed e ((members e).0 c))) in
       bipolar_edges-fixed v own (edges_of keys) (record {
         ascends = ascends (length v.sizes) keys sorted
             (λ e c. ap (λ (d : Splits.Edge). length (midpoint d)) (sym (has e c).2.2) ∙ length-edge v.kind v.sizes (has e c).0 (has e c).2.0)
@@ -136,8 +91,8 @@ both_ways P Q R a b = (λ p. b.0 (a.0 p), λ r. a.1 (b.1 r))
 
 moved : {D : ℕ} (old new : List (Edge D)) → IsPermutation old new → (e : Splits.Edge) → Contains (edges_of old) e → Contains (edges_of new) e
 moved {D} old new p e c =
-    let at = Contains-map (edge_of {D = D}) old e c in
-    subst (Contains (edges_of new)) at.2 (mapped (edge_of {D = D}) new at.0 (Contains-permutation old new at.0 p at.1))
+    let at = from_Contains-map (edge_of {D = D}) old e c in
+    subst (Contains (edges_of new)) at.2 (Contains-mapped (edge_of {D = D}) new at.0 (Contains-permutation old new at.0 p at.1))
 
 pub reordered_members : {D : ℕ} (old new : List (Edge D)) → IsPermutation old new → (e : Splits.Edge) → Contains (edges_of new) e ↔ Contains (edges_of old) e
 reordered_members old new p e = (moved new old (IsPermutation-sym old new p) e, moved old new p e)

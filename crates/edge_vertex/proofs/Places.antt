@@ -5,19 +5,18 @@ use Rattle.std.proofs.lemmas.List.{get_or-map, length-map, drop_all}
 use Rattle.std.proofs.Math.Nat.{mul-le-mul_left, mul-le-mul_right}
 use Rattle.iso_model.specs.Values.{product, sample_number}
 use Rattle.grid_split.proofs.CubeNumbers.{product_of}
+use Rattle.lists.proofs.Tests.{next_below}
 
 -- the point's sample along each axis
 abbrev pub halves : List ℕ → List ℕ
 halves p = map (λ c. c / 2) p
 
-number_step : (sizes xs : List ℕ) (i : ℕ) → i < length sizes → i < length xs → sample_number (drop i sizes) (drop i xs) ≡ slice_index xs i + slice_index sizes i * sample_number (drop (i + 1) sizes) (drop (i + 1) xs)
+number_step : (sizes xs : List ℕ) (i : ℕ) → i < length sizes → i < length xs
+    → sample_number (drop i sizes) (drop i xs) ≡ slice_index xs i + slice_index sizes i * sample_number (drop (i + 1) sizes) (drop (i + 1) xs)
 number_step sizes xs i h k = rw (add-one, drop-cons sizes i 0, drop-cons xs i 0) refl
 
 product_step : (sizes : List ℕ) (i : ℕ) → i < length sizes → product (drop i sizes) ≡ slice_index sizes i * product (drop (i + 1) sizes)
 product_step sizes i h = rw (add-one, drop-cons sizes i 0) (product_of (slice_index sizes i) (drop (suc i) sizes))
-
-pub next_below : (x n m p : ℕ) → x < n → m < p → x + n * m < n * p
-next_below x n m p h k = let more : n * (m + 1) ≤ n * p = mul-le-mul_left n (omega (arith, k)) in omega (arith, more, h)
 
 rest_few : (sizes : List ℕ) → ((i : ℕ) → i < length sizes → 0 < slice_index sizes i) → (i : ℕ) → product (drop i sizes) ≤ product sizes
 rest_few [] some i = rw (drop_all {X = ℕ} i [] (omega arith)) (omega arith)
@@ -46,18 +45,25 @@ pub record NextPlace (sizes p : List ℕ) (i place : ℕ) : Type 0 where
   pub few : slice_index p i / 2 + slice_index sizes i * place ≤ product sizes
   pub next : PlaceFrom sizes p i (slice_index p i / 2 + slice_index sizes i * place)
 
-pub one_axis_more : (sizes p : List ℕ) (i place : ℕ) → i < length sizes → length p ≡ length sizes → ((j : ℕ) → j < length sizes → slice_index p j / 2 < slice_index sizes j) → PlaceFrom sizes p (i + 1) place → NextPlace sizes p i place
+pub one_axis_more : (sizes p : List ℕ) (i place : ℕ) → i < length sizes → length p ≡ length sizes
+    → ((j : ℕ) → j < length sizes → slice_index p j / 2 < slice_index sizes j) → PlaceFrom sizes p (i + 1) place → NextPlace sizes p i place
 one_axis_more sizes p i place h long inside from =
     let half : slice_index (halves p) i ≡ slice_index p i / 2 = get_or-map (λ c. c / 2) p i 0 0 (omega (arith, h, long)) in
-    let at : sample_number (drop i sizes) (drop i (halves p)) ≡ slice_index (halves p) i + slice_index sizes i * sample_number (drop (i + 1) sizes) (drop (i + 1) (halves p)) =
+    let at : sample_number (drop i sizes) (drop i (halves p))
+        ≡ slice_index (halves p) i + slice_index sizes i * sample_number (drop (i + 1) sizes) (drop (i + 1) (halves p)) =
     number_step sizes (halves p) i h (omega (arith, h, long, length-map p (λ c. c / 2))) in
-    let some = λ (j : ℕ) (k : j < length sizes). let here : slice_index p j / 2 < slice_index sizes j = inside j k in zero_below (slice_index p j / 2) (slice_index sizes j) here in
+    let some =
+        λ (j : ℕ) (k : j < length sizes).
+            let here : slice_index p j / 2 < slice_index sizes j = inside j k in zero_below (slice_index p j / 2) (slice_index sizes j) here in
     let below : slice_index p i / 2 + slice_index sizes i * place < product (drop i sizes) =
     rw (product_step sizes i h) (next_below (slice_index p i / 2) (slice_index sizes i) place (product (drop (i + 1) sizes)) (inside i h) from.below) in
     record {
       few = omega (arith, below, rest_few sizes some i);
       next = record {
-        number = sym (at ∙ ap (λ (x : ℕ). x + slice_index sizes i * sample_number (drop (i + 1) sizes) (drop (i + 1) (halves p))) half ∙ ap (λ (m : ℕ). slice_index p i / 2 + slice_index sizes i * m) (sym from.number));
+        number =
+            sym
+                (at ∙ ap (λ (x : ℕ). x + slice_index sizes i * sample_number (drop (i + 1) sizes) (drop (i + 1) (halves p))) half
+                     ∙ ap (λ (m : ℕ). slice_index p i / 2 + slice_index sizes i * m) (sym from.number));
         below = below;
       };
     }

@@ -1,4 +1,4 @@
 pub mod EdgeValue
-pub mod Ends
+pub mod EdgeEnds
 pub mod NearbyHash
 pub mod Sums

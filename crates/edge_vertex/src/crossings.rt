@@ -4,7 +4,7 @@ ghost use Rattle.iso_model.specs.Values.{is_positive};
 ghost use Rattle.iso_model.specs.Bipolar.{differ};
 ghost use Rattle.iso_model.specs.Crossing.{crossing as crossing_of};
 ghost use Rattle.iso_model.specs.Points.{axes};
-ghost use Rattle.edge_vertex.specs.Ends.{AreNear, coordinate_between};
+ghost use Rattle.edge_vertex.specs.EdgeEnds.{AreNear, coordinate_between};
 
 use grid_split::Edge;
 

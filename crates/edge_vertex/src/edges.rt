@@ -22,7 +22,7 @@ pub struct EdgeList<const D: usize> {
 impl<const D: usize> Model for EdgeList<D> {
     ghost use Rattle.std.specs.Prelude.{ℕ, List, ◌^◌, ◌<◌, length};
     ghost use Rattle.iso_model.specs.Splits as Splits;
-    ghost use Rattle.cell_lattice.specs.Dimensions.{IsDimension};
+    ghost use Rattle.iso_model.specs.Dimensions.{IsDimension};
     ghost use Rattle.edge_vertex.specs.EdgeValue.{edges_of};
 
     ghost Value = { List Splits.Edge };

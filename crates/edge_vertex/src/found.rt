@@ -4,7 +4,7 @@ ghost use Rattle.std.specs.Cmp.Lexicographic.{slice_cmp};
 ghost use Rattle.iso_model.specs.Points.{plus};
 ghost use Rattle.iso_model.specs.Splits.{cell_count, Edge as GridEdge};
 ghost use Rattle.iso_model.specs.Values.{Grid as Samples, IsRegularGrid, volume};
-ghost use Rattle.cell_lattice.specs.Dimensions.{IsDimension};
+ghost use Rattle.iso_model.specs.Dimensions.{IsDimension};
 ghost use Rattle.cube_cells.specs.SignedCubes.{IsSignedCube};
 ghost use Rattle.edge_vertex.specs.EdgeValue.{edge_of, edges_of, Adds, IsBipolarOf, IsBipolarAt, IsBipolarFrom, IsBipolarEdge, order_of};
 ghost use Rattle.iso_model.specs.Bipolar.{bipolar_edges};

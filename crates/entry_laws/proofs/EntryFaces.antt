@@ -1,35 +1,30 @@
 -- What the rule of faces says of the faces of a tuple: in how many facets a face lies, and how often the entry has it with each sign.
-use Rattle.std.proofs.Common.{◌≡◌, ℕ, zero, suc, ◌+◌, ◌<◌, ◌≤◌, Bool, true, false, not, ◌||◌, ◌==◌, List, ◌∷◌, length, refl, ap, subst, sym, ◌∙◌, arith, ℤ, pos, negsuc}
+use Rattle.std.proofs.Common.{◌≡◌, ℕ, zero, suc, ◌+◌, ◌<◌, ◌≤◌, Bool, true, false, not, ◌||◌, ◌==◌, List, ◌∷◌, length, refl, ap, subst, sym, ◌∙◌}
+use Rattle.std.proofs.Common.{arith, pos}
 use Rattle.std.specs.Prelude.{count_by}
 use Rattle.std.specs.List.{list_all}
 use Rattle.std.proofs.lemmas.Bool.{and_parts, false≢true}
 use Rattle.std.proofs.lemmas.Int.{ints}
 use Rattle.iso_model.specs.declared.Kind.{Kind}
-use Rattle.iso_model.specs.Orders.{numbers, without, sorted, is_distinct}
+use Rattle.lists.specs.Orders.{numbers, without, sorted, is_distinct}
 use Rattle.iso_model.specs.Turns.{same_int}
 use Rattle.iso_model.specs.Cells.{facet_count, edge_in_facet, facets_with}
 use Rattle.iso_model.specs.Faces.{face_without, face_count, face_sum}
 use Rattle.iso_model.specs.Acceptance.{is_face_right, rule_faces}
-use Rattle.iso_model.proofs.Deciding.{equal_of}
-use Rattle.mesh_laws.proofs.Sorting.{Distinct}
-use Rattle.mesh_laws.proofs.Members.{In}
-use Rattle.mesh_laws.proofs.FaceSigns.{Each, Each-sorted, from_Each-sorted, Part, rest, after, has_signed, distinct_test}
-use Rattle.mesh_laws.proofs.FaceOf.{In-numbers, from_In-numbers}
+use Rattle.mesh_laws.proofs.FaceSigns.{Each-sorted, from_Each-sorted, Part, rest, after, has_signed}
 use Rattle.mesh_laws.proofs.SignedFaces.{face_count_is, face_sum_is}
 use Rattle.entry_laws.proofs.Tests.{all_each, each_from_all, from_In-filter, some_member, no_member, only_member}
 use Rattle.entry_laws.proofs.TupleLaws.{facet_found}
+use Rattle.lists.specs.Members.{In, Each, Distinct}
+use Rattle.lists.proofs.Tests.{equal_of}
+use Rattle.lists.proofs.DistinctLists.{distinct_test}
+use Rattle.lists.proofs.MemberLaws.{In-numbers, from_In-numbers}
+use Rattle.iso_model.proofs.PointLaws.{same_int-is}
 
 -- a list without one place is the list without some place k
 part_place : {l w : List ℕ} → Part l w → (k : ℕ) × (k < length w) × (without k w ≡ l)
 part_place rest = (0, omega arith, refl)
 part_place (after {x = x} p) = let r = part_place p in (suc r.0, omega (arith, r.1), ap (λ (v : List ℕ). x ∷ v) r.2)
-
--- the test of equal whole numbers
-pub same_int-is : (a b : ℤ) → same_int a b ≡ true → a ≡ b
-same_int-is (pos a) (pos b) h = ap pos (equal_of a b h)
-same_int-is (pos a) (negsuc b) h = absurd (false≢true h)
-same_int-is (negsuc a) (pos b) h = absurd (false≢true h)
-same_int-is (negsuc a) (negsuc b) h = ap negsuc (equal_of a b h)
 
 -- ---- the rule at a face
 
@@ -39,7 +34,12 @@ face_right : (kind : Kind) (d : ℕ) (ws : List (List ℕ)) (w l : List ℕ) →
 face_right kind d ws w l rule i distinct part =
     let place = part_place part in
     let test : ℕ → Bool = λ k. is_face_right ws (face_without w k) (length (facets_with kind d (face_without w k))) in
-    let tuple = all_each (λ v. not (is_distinct v) || list_all (λ k. is_face_right ws (face_without v k) (length (facets_with kind d (face_without v k)))) (numbers (length v))) ws rule w i in
+    let tuple =
+    all_each
+    (λ v.
+    not (is_distinct v)
+    || list_all (λ k. is_face_right ws (face_without v k) (length (facets_with kind d (face_without v k)))) (numbers (length v)))
+    ws rule w i in
     let all = second (is_distinct w) (list_all test (numbers (length w))) (distinct_test w distinct) tuple in
     let at : test place.0 ≡ true = all_each test (numbers (length w)) all place.0 (In-numbers (length w) place.0 place.1) in
     subst (λ (v : List ℕ). is_face_right ws (sorted v) (length (facets_with kind d (sorted v))) ≡ true) place.2 at
@@ -64,14 +64,17 @@ right_in_one ws face (suc (suc n)) some h = absurd (false≢true h)
 -- ---- the facets of a face
 
 -- a facet with all edges of a face, in any order of them
-facet_of_face : (kind : Kind) (d f : ℕ) (l : List ℕ) → f < facet_count kind d → Each (λ e. edge_in_facet kind d f e ≡ true) l → In f (facets_with kind d (sorted l))
+facet_of_face : (kind : Kind) (d f : ℕ) (l : List ℕ) → f < facet_count kind d → Each (λ e. edge_in_facet kind d f e ≡ true) l
+    → In f (facets_with kind d (sorted l))
 facet_of_face kind d f l less all = facet_found kind d f (sorted l) less (Each-sorted (λ e. edge_in_facet kind d f e ≡ true) l all)
 
 -- a face that no facet has
-in_none : (kind : Kind) (d : ℕ) (l : List ℕ) → ((f : ℕ) → f < facet_count kind d → ¬ Each (λ e. edge_in_facet kind d f e ≡ true) l) → length (facets_with kind d (sorted l)) ≡ 0
+in_none : (kind : Kind) (d : ℕ) (l : List ℕ) → ((f : ℕ) → f < facet_count kind d → ¬ Each (λ e. edge_in_facet kind d f e ≡ true) l)
+    → length (facets_with kind d (sorted l)) ≡ 0
 in_none kind d l off = no_member (facets_with kind d (sorted l)) (λ f i.
     let r = from_In-filter (λ g. list_all (edge_in_facet kind d g) (sorted l)) (numbers (facet_count kind d)) f i in
-    off f (from_In-numbers (facet_count kind d) f r.0) (from_Each-sorted (λ e. edge_in_facet kind d f e ≡ true) l (each_from_all (edge_in_facet kind d f) (sorted l) r.1)))
+    off f (from_In-numbers (facet_count kind d) f r.0)
+    (from_Each-sorted (λ e. edge_in_facet kind d f e ≡ true) l (each_from_all (edge_in_facet kind d f) (sorted l) r.1)))
 
 -- ---- the laws
 
@@ -80,14 +83,17 @@ pub face_inside : (kind : Kind) (d : ℕ) (ws : List (List ℕ)) (w l : List ℕ
     → ((f : ℕ) → f < facet_count kind d → ¬ Each (λ e. edge_in_facet kind d f e ≡ true) l)
     → (count_by (has_signed 0 (sorted l)) ws ≡ 1) × (count_by (has_signed 1 (sorted l)) ws ≡ 1)
 face_inside kind d ws w l rule i distinct part off =
-    let r = right_inside ws (sorted l) (length (facets_with kind d (sorted l))) (in_none kind d l off) (face_right kind d ws w l rule i distinct part) in
-    (omega (arith, ints, r.0, r.1, face_count_is ws (sorted l), face_sum_is ws (sorted l)), omega (arith, ints, r.0, r.1, face_count_is ws (sorted l), face_sum_is ws (sorted l)))
+    let r = right_inside ws (sorted l) (length (facets_with kind d (sorted l))) (in_none kind d l off) (face_right kind d ws w l rule i distinct part) in (
+      omega (arith, ints, r.0, r.1, face_count_is ws (sorted l), face_sum_is ws (sorted l)),
+      omega (arith, ints, r.0, r.1, face_count_is ws (sorted l), face_sum_is ws (sorted l)),
+    )
 
 -- a face in a facet is in one, and has count 1
 face_in_one : (kind : Kind) (d : ℕ) (ws : List (List ℕ)) (w l : List ℕ) (f : ℕ) → rule_faces kind d ws ≡ true → In w ws → Distinct w → Part l w
     → f < facet_count kind d → Each (λ e. edge_in_facet kind d f e ≡ true) l → (length (facets_with kind d (sorted l)) ≡ 1) × (face_count ws (sorted l) ≡ 1)
 face_in_one kind d ws w l f rule i distinct part less all =
-    right_in_one ws (sorted l) (length (facets_with kind d (sorted l))) (some_member f (facets_with kind d (sorted l)) (facet_of_face kind d f l less all)) (face_right kind d ws w l rule i distinct part)
+    right_in_one ws (sorted l) (length (facets_with kind d (sorted l)))
+    (some_member f (facets_with kind d (sorted l)) (facet_of_face kind d f l less all)) (face_right kind d ws w l rule i distinct part)
 
 -- a face in a facet is had once, with one sign or the other
 pub face_once : (kind : Kind) (d : ℕ) (ws : List (List ℕ)) (w l : List ℕ) (f : ℕ) → rule_faces kind d ws ≡ true → In w ws → Distinct w → Part l w
@@ -98,4 +104,5 @@ face_once kind d ws w l f rule i distinct part less all = sym (face_count_is ws 
 pub face_one_facet : (kind : Kind) (d : ℕ) (ws : List (List ℕ)) (w l : List ℕ) (f g : ℕ) → rule_faces kind d ws ≡ true → In w ws → Distinct w → Part l w
     → f < facet_count kind d → g < facet_count kind d → Each (λ e. edge_in_facet kind d f e ≡ true) l → Each (λ e. edge_in_facet kind d g e ≡ true) l → f ≡ g
 face_one_facet kind d ws w l f g rule i distinct part less_f less_g all_f all_g =
-    only_member f g (facets_with kind d (sorted l)) (face_in_one kind d ws w l f rule i distinct part less_f all_f).0 (facet_of_face kind d f l less_f all_f) (facet_of_face kind d g l less_g all_g)
+    only_member f g (facets_with kind d (sorted l)) (face_in_one kind d ws w l f rule i distinct part less_f all_f).0
+    (facet_of_face kind d f l less_f all_f) (facet_of_face kind d g l less_g all_g)

@@ -2,15 +2,15 @@
 use Rattle.std.proofs.Common.{◌≡◌, ℕ, ◌+◌, ◌<◌, true, List, arith}
 use Rattle.std.specs.Prelude.{count_by}
 use Rattle.iso_model.specs.declared.Kind.{Kind}
-use Rattle.iso_model.specs.Orders.{sorted}
+use Rattle.lists.specs.Orders.{sorted}
 use Rattle.iso_model.specs.Cells.{edge_count, facet_count, edge_in_facet, label_count}
 use Rattle.iso_model.specs.Bipolar.{is_bipolar_in}
 use Rattle.iso_model.specs.Tables.{Table, IsTable, entry_of}
 use Rattle.iso_model.specs.Acceptance.{rule_edges, rule_inside, rule_faces, IsAccepted}
-use Rattle.mesh_laws.proofs.Members.{In}
-use Rattle.mesh_laws.proofs.FaceSigns.{Each, Part, has_signed}
+use Rattle.mesh_laws.proofs.FaceSigns.{Part, has_signed}
 use Rattle.entry_laws.proofs.TupleLaws.{IsSound, tuple_of, sound_tuple, edge_covered, tuple_off_facet}
 use Rattle.entry_laws.proofs.EntryFaces.{face_inside, face_once, face_one_facet}
+use Rattle.lists.specs.Members.{In, Each}
 
 -- all edges lie in the facet
 abbrev pub AllIn : Kind → ℕ → ℕ → List ℕ → Type 0
@@ -31,10 +31,12 @@ pub record LabelLaws (kind : Kind) (d label : ℕ) (ws : List (List ℕ)) : Type
   pub once : (w face : List ℕ) (f : ℕ) → In w ws → Part face w → f < facet_count kind d → AllIn kind d f face →
       count_by (has_signed 0 (sorted face)) ws + count_by (has_signed 1 (sorted face)) ws ≡ 1
   -- no face lies in two facets
-  pub one_facet : (w face : List ℕ) (f g : ℕ) → In w ws → Part face w → f < facet_count kind d → g < facet_count kind d → AllIn kind d f face → AllIn kind d g face → f ≡ g
+  pub one_facet : (w face : List ℕ) (f g : ℕ) → In w ws → Part face w → f < facet_count kind d → g < facet_count kind d → AllIn kind d f face
+      → AllIn kind d g face → f ≡ g
 
 -- the laws hold of the entry of each label of an accepted table
-pub label_laws : (t : Table) (label : ℕ) → IsTable t → IsAccepted t → label < label_count t.kind t.dimension → LabelLaws t.kind t.dimension label (entry_of t label)
+pub label_laws : (t : Table) (label : ℕ) → IsTable t → IsAccepted t → label < label_count t.kind t.dimension
+    → LabelLaws t.kind t.dimension label (entry_of t label)
 label_laws t label table accepted less =
     let kind = t.kind in
     let d = t.dimension in

@@ -1,9 +1,9 @@
 pub mod Tests
 pub mod TupleLaws
 pub mod EntryFaces
-pub mod Choices
+pub mod FacetChoices
 pub mod SeamLaws
 pub mod SeamSides
 pub mod LabelLaws
 pub mod OrderMembers
-pub mod FanLaws
+pub mod PathLaws

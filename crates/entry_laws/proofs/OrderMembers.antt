@@ -1,8 +1,9 @@
 -- The orders of all members of a list have these members and no others.
 use Rattle.std.proofs.Common.{◌≡◌, ℕ, zero, suc, List, [], ◌∷◌, length, refl, sym, subst, arith, inl, inr}
 use Rattle.std.specs.Prelude.{map, ◌⊎◌}
-use Rattle.iso_model.specs.Orders.{picks, orders_of}
-use Rattle.mesh_laws.proofs.Members.{In, from_In-map, from_In-flat_map}
+use Rattle.lists.specs.Orders.{picks, orders_of}
+use Rattle.lists.specs.Members.{In}
+use Rattle.lists.proofs.MemberLaws.{from_In-map, from_In-flat_map}
 
 -- a member is picked: it and the others are the members of the list, and the others are one fewer
 record IsPicked {X : Type 0} (xs : List X) (p : X × List X) : Type 0 where
@@ -14,7 +15,8 @@ record IsPicked {X : Type 0} (xs : List X) (p : X × List X) : Type 0 where
 -- picks are so
 is_picked : {X : Type 0} (xs : List X) (p : X × List X) → In p (picks xs) → IsPicked xs p
 is_picked [] p m = absurd m
-is_picked {X} (x ∷ xs) p (inl e) = subst (λ (q : X × List X). IsPicked (x ∷ xs) q) (sym e) (record { picked = inl refl; others = λ y i. inr i; all = λ y i. i; count = refl })
+is_picked {X} (x ∷ xs) p (inl e) =
+    subst (λ (q : X × List X). IsPicked (x ∷ xs) q) (sym e) (record { picked = inl refl; others = λ y i. inr i; all = λ y i. i; count = refl })
 is_picked {X} (x ∷ xs) p (inr m) =
     let r = from_In-map (λ (q : X × List X). (q.0, x ∷ q.1)) (picks xs) p m in
     subst (λ (q : X × List X). IsPicked (x ∷ xs) q) (sym r.2) (put_before x xs r.0 (is_picked xs r.0 r.1))
@@ -67,7 +69,8 @@ order_whole zero [] r long m x i = absurd i
 order_whole zero (y ∷ xs) r long m x i = absurd (omega (arith, long))
 order_whole {X} (suc n) xs r long m x i =
     let o = is_ordered n xs r m in
-    subst (λ (l : List X). In x l) (sym o.is) (by o (λ j. order_whole n o.pick.1 o.further (omega (arith, long, o.is_pick.count)) o.is_order x j) (o.is_pick.all x i))
+    subst (λ (l : List X). In x l) (sym o.is)
+    (by o (λ j. order_whole n o.pick.1 o.further (omega (arith, long, o.is_pick.count)) o.is_order x j) (o.is_pick.all x i))
   where
     by : (o : IsOrder n xs r) → (In x o.pick.1 → In x o.further) → (x ≡ o.pick.0) ⊎ In x o.pick.1 → In x (o.pick.0 ∷ o.further)
     by o later (inl s) = inl s

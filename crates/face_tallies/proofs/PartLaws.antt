@@ -1,6 +1,8 @@
 -- How parts add up.
 use borrow.Author.Differences.{up, down}
-use Rattle.std.specs.Prelude.{◌≡◌, ◌≢◌, ◌⊎◌, ℕ, zero, suc, ◌+◌, ◌-◌, ◌*◌, ◌^◌, ◌<◌, ◌≤◌, ℤ, pos, ◌+ℤ◌, ◌-ℤ◌, unsigned_abs, Bool, true, false, ◌&&◌, ◌==◌, nat_lt, List, [], ◌∷◌, ◌++◌, map, length, take, sum_by, slice_index_or, slice_set, All, IsPermutation, if◌then◌else◌}
+use Rattle.std.specs.Prelude.{◌≡◌, ◌≢◌, ◌⊎◌, ℕ, zero, suc, ◌+◌, ◌-◌, ◌*◌, ◌^◌, ◌<◌, ◌≤◌, ℤ, pos, ◌+ℤ◌, ◌-ℤ◌, unsigned_abs, Bool, true, false, ◌&&◌}
+use Rattle.std.specs.Prelude.{◌==◌, nat_lt, List, [], ◌∷◌, ◌++◌, map, length, take, sum_by, slice_index_or, slice_set, All, IsPermutation}
+use Rattle.std.specs.Prelude.{if◌then◌else◌}
 use Rattle.std.specs.List.{AllAdjacentBelow, range_with_len}
 use Rattle.std.specs.List.Sorted.{IsNonDecreasingBy}
 use Rattle.std.proofs.Common.{refl, sym, ap, ◌∙◌, subst, arith, inl, inr}
@@ -13,11 +15,11 @@ use Rattle.std.proofs.lemmas.List.FromFn.{map-range_with_len_more}
 use Rattle.std.proofs.lemmas.List.Sorted.{All-permutation, sum_by-IsPermutation}
 use Rattle.std.proofs.lemmas.List.Sums.{sum_by-cons, sum_by-append, sum_by-set}
 use Rattle.std.proofs.Math.Nat.{mul-le-mul_right}
-use Rattle.iso_model.specs.Orders.{numbers}
-use Rattle.iso_model.proofs.Deciding.{any_default}
+use Rattle.lists.specs.Orders.{numbers}
 use Rattle.iso_model.specs.Turns.{total}
 use Rattle.face_tallies.specs.declared.faces.FaceTally.{FaceTally}
 use Rattle.face_tallies.specs.Parts.{part_at, parts_of, all_parts, count_at, sum_at, whole_count, IsWeighed, joined, put_at, AddsParts}
+use Rattle.lists.proofs.Contained.{any_default}
 
 -- ---- sums of whole numbers, as differences
 
@@ -28,7 +30,16 @@ module _ {X : Type 0} (g : X → ℤ) where
 
   pub total-append : (xs ys : List X) → total (map g (xs ++ ys)) ≡ total (map g xs) +ℤ total (map g ys)
   total-append xs ys =
-      omega (arith, ints, as_difference (xs ++ ys), as_difference xs, as_difference ys, sum_by-append (λ y. up (g y)) xs ys, sum_by-append (λ y. down (g y)) xs ys)
+      omega
+          (
+            arith,
+            ints,
+            as_difference (xs ++ ys),
+            as_difference xs,
+            as_difference ys,
+            sum_by-append (λ y. up (g y)) xs ys,
+            sum_by-append (λ y. down (g y)) xs ys
+          )
 
   pub total-set : (xs : List X) (i : ℕ) (y d : X) → i < length xs → total (map g (slice_set xs i y)) +ℤ g (slice_index_or xs i d) ≡ total (map g xs) +ℤ g y
   total-set xs i y d h =
@@ -76,7 +87,8 @@ pub record IsThere (place : ℕ) (part : FaceTally) (parts : List FaceTally) : T
   pub inside : place < length parts
   pub same : (slice_index_or parts place part).edges ≡ part.edges
 
-is_there : (place : ℕ) (part : FaceTally) (parts : List FaceTally) → (nat_lt place (length parts) && ((slice_index_or parts place part).edges == part.edges)) ≡ true → IsThere place part parts
+is_there : (place : ℕ) (part : FaceTally) (parts : List FaceTally)
+    → (nat_lt place (length parts) && ((slice_index_or parts place part).edges == part.edges)) ≡ true → IsThere place part parts
 is_there place part parts h =
     let p = and_parts (nat_lt place (length parts)) ((slice_index_or parts place part).edges == part.edges) h in
     record { inside = lt_of place (length parts) p.0; same = eqb-true (slice_index_or parts place part).edges part.edges p.1 }
@@ -93,7 +105,8 @@ one_sum set part = zero_right (sum_of set part)
     zero_right : (x : ℤ) → x +ℤ pos 0 ≡ x
     zero_right x = omega (arith, ints)
 
-pub put_adds : (place : ℕ) (part : FaceTally) (parts : List FaceTally) → All IsWeighed parts → IsWeighed part → AddsParts (part ∷ []) parts (put_at place part parts)
+pub put_adds : (place : ℕ) (part : FaceTally) (parts : List FaceTally) → All IsWeighed parts → IsWeighed part
+    → AddsParts (part ∷ []) parts (put_at place part parts)
 put_adds place part parts all one = by_test (nat_lt place (length parts) && ((slice_index_or parts place part).edges == part.edges)) refl
   where
     joins : IsThere place part parts → AddsParts (part ∷ []) parts (put_by true place part parts)
@@ -101,9 +114,18 @@ put_adds place part parts all one = by_test (nat_lt place (length parts) && ((sl
         let t = slice_index_or parts place part in
         record {
           count = λ set. omega (arith, sum_by-set (count_of set) parts place (joined t part) part h.inside, joined_count set t part h.same, one_count set part);
-          sum = λ set. added (sum_at set (put_by true place part parts)) (sum_of set t) (sum_at set parts) (sum_of set part) (sum_of set (joined t part)) (sum_at set (part ∷ []))
+          sum =
+              λ set.
+                  added (sum_at set (put_by true place part parts)) (sum_of set t) (sum_at set parts) (sum_of set part) (sum_of set (joined t part))
+                      (sum_at set (part ∷ []))
               (total-set (sum_of set) parts place (joined t part) part h.inside) (joined_sum set t part h.same) (one_sum set part);
-          whole = omega (arith, sum_by-set (λ (s : FaceTally). s.count) parts place (joined t part) part h.inside, sum_by-cons (λ (s : FaceTally). s.count) part []);
+          whole =
+              omega
+                  (
+                    arith,
+                    sum_by-set (λ (s : FaceTally). s.count) parts place (joined t part) part h.inside,
+                    sum_by-cons (λ (s : FaceTally). s.count) part []
+                  );
           weighed = All-set IsWeighed parts place (joined t part) (joined_weighed t part (all place part h.inside) one) all;
         }
       where
@@ -118,7 +140,8 @@ put_adds place part parts all one = by_test (nat_lt place (length parts) && ((sl
       weighed = All-push IsWeighed parts part all one;
     }
 
-    by_test : (b : Bool) → (nat_lt place (length parts) && ((slice_index_or parts place part).edges == part.edges)) ≡ b → AddsParts (part ∷ []) parts (put_by b place part parts)
+    by_test : (b : Bool) → (nat_lt place (length parts) && ((slice_index_or parts place part).edges == part.edges)) ≡ b
+        → AddsParts (part ∷ []) parts (put_by b place part parts)
     by_test true e = joins (is_there place part parts e)
     by_test false e = ends
 
@@ -138,7 +161,10 @@ adds_none parts all = record {
 pub adds_more : (more again old mid new : List FaceTally) → AddsParts more old mid → AddsParts again mid new → AddsParts (more ++ again) old new
 adds_more more again old mid new a b = record {
   count = λ set. omega (arith, a.count set, b.count set, sum_by-append (count_of set) more again);
-  sum = λ set. added (sum_at set old) (sum_at set more) (sum_at set again) (sum_at set mid) (sum_at set new) (sum_at set (more ++ again)) (a.sum set) (b.sum set) (total-append (sum_of set) more again);
+  sum =
+      λ set.
+          added (sum_at set old) (sum_at set more) (sum_at set again) (sum_at set mid) (sum_at set new) (sum_at set (more ++ again)) (a.sum set)
+              (b.sum set) (total-append (sum_of set) more again);
   whole = omega (arith, a.whole, b.whole, sum_by-append (λ (s : FaceTally). s.count) more again);
   weighed = b.weighed;
 }
@@ -159,11 +185,13 @@ pub places_more : (w : List ℕ) (place : ℕ) → map (part_at w) (numbers (pla
 places_more w place = map-range_with_len_more (part_at w) 0 place place (omega arith)
 
 -- the next part
-pub taken_more : (parts : List FaceTally) (i : ℕ) (part : FaceTally) → i < length parts → part ≡ slice_index_or parts i part → take (i + 1) parts ≡ take i parts ++ part ∷ []
+pub taken_more : (parts : List FaceTally) (i : ℕ) (part : FaceTally) → i < length parts → part ≡ slice_index_or parts i part
+    → take (i + 1) parts ≡ take i parts ++ part ∷ []
 taken_more parts i part inside read = take_more parts i part inside ∙ ap (λ (t : FaceTally). take i parts ++ t ∷ []) (sym read)
 
 -- the next tuple
-pub tuples_more : (ws : List (List ℕ)) (i : ℕ) (w : List ℕ) → i < length ws → w ≡ slice_index_or ws i w → all_parts (take (i + 1) ws) ≡ all_parts (take i ws) ++ parts_of w
+pub tuples_more : (ws : List (List ℕ)) (i : ℕ) (w : List ℕ) → i < length ws → w ≡ slice_index_or ws i w
+    → all_parts (take (i + 1) ws) ≡ all_parts (take i ws) ++ parts_of w
 tuples_more ws i w inside read = ap all_parts (take_more ws i w inside ∙ ap (λ v. take i ws ++ v ∷ []) (sym read)) ∙ push (take i ws)
   where
     assoc : (xs ys zs : List FaceTally) → xs ++ (ys ++ zs) ≡ (xs ++ ys) ++ zs
@@ -186,9 +214,11 @@ places_count w n = from 0 n
     from a zero = refl
     from a (suc m) = omega (arith, sum_by-cons (λ (s : FaceTally). s.count) (part_at w a) (map (part_at w) (range_with_len (a + 1) m)), from (a + 1) m)
 
-pub wide_more : (d : ℕ) (ws : List (List ℕ)) (i : ℕ) (w : List ℕ) → i < length ws → w ≡ slice_index_or ws i w → length w ≡ d → All (λ v. length v ≡ d) (take i ws) → All (λ v. length v ≡ d) (take (i + 1) ws)
+pub wide_more : (d : ℕ) (ws : List (List ℕ)) (i : ℕ) (w : List ℕ) → i < length ws → w ≡ slice_index_or ws i w → length w ≡ d
+    → All (λ v. length v ≡ d) (take i ws) → All (λ v. length v ≡ d) (take (i + 1) ws)
 wide_more d ws i w inside read wide all =
-    subst (λ vs. All (λ v. length v ≡ d) vs) (sym (take_more ws i w inside ∙ ap (λ v. take i ws ++ v ∷ []) (sym read))) (All-push (λ v. length v ≡ d) (take i ws) w all wide)
+    subst (λ vs. All (λ v. length v ≡ d) vs) (sym (take_more ws i w inside ∙ ap (λ v. take i ws ++ v ∷ []) (sym read)))
+        (All-push (λ v. length v ≡ d) (take i ws) w all wide)
 
 pub few_faces : (d i n : ℕ) → d ≤ 4 → i < n → n ≤ 2 ^ 28 → d * i + d ≤ 2 ^ 62
 few_faces d i n h k l = let m = mul-le-mul_right (i + 1) h in omega (arith, m, k, l)
@@ -201,20 +231,26 @@ few_in_all d n h l = let m = mul-le-mul_right n h in omega (arith, m, l)
 abbrev pub AscendsBySets : List FaceTally → Type 0
 AscendsBySets parts = AllAdjacentBelow (λ (a b : FaceTally). a.edges < b.edges) parts (length parts)
 
-pub put_bounded : (bound place : ℕ) (part : FaceTally) (parts : List FaceTally) → All (λ (t : FaceTally). t.edges ≤ bound) parts → part.edges ≤ bound → All (λ (t : FaceTally). t.edges ≤ bound) (put_at place part parts)
+pub put_bounded : (bound place : ℕ) (part : FaceTally) (parts : List FaceTally) → All (λ (t : FaceTally). t.edges ≤ bound) parts → part.edges ≤ bound
+    → All (λ (t : FaceTally). t.edges ≤ bound) (put_at place part parts)
 put_bounded bound place part parts all one = by_test (nat_lt place (length parts) && ((slice_index_or parts place part).edges == part.edges)) refl
   where
-    by_test : (b : Bool) → (nat_lt place (length parts) && ((slice_index_or parts place part).edges == part.edges)) ≡ b → All (λ (t : FaceTally). t.edges ≤ bound) (put_by b place part parts)
+    by_test : (b : Bool) → (nat_lt place (length parts) && ((slice_index_or parts place part).edges == part.edges)) ≡ b
+        → All (λ (t : FaceTally). t.edges ≤ bound) (put_by b place part parts)
     by_test true e =
         let h = is_there place part parts e in
         All-set (λ (t : FaceTally). t.edges ≤ bound) parts place (joined (slice_index_or parts place part) part) (all place part h.inside) all
     by_test false e = All-push (λ (t : FaceTally). t.edges ≤ bound) parts part all one
 
-pub put_ascends : (part : FaceTally) (parts : List FaceTally) → AscendsBySets parts → All (λ (t : FaceTally). t.edges ≤ part.edges) parts → AscendsBySets (put_at (length parts - 1) part parts)
-put_ascends part parts up_to all = by_test (nat_lt (length parts - 1) (length parts) && ((slice_index_or parts (length parts - 1) part).edges == part.edges)) refl
+pub put_ascends : (part : FaceTally) (parts : List FaceTally) → AscendsBySets parts → All (λ (t : FaceTally). t.edges ≤ part.edges) parts
+    → AscendsBySets (put_at (length parts - 1) part parts)
+put_ascends part parts up_to all =
+    by_test (nat_lt (length parts - 1) (length parts) && ((slice_index_or parts (length parts - 1) part).edges == part.edges)) refl
   where
-    same_sets : IsThere (length parts - 1) part parts → (k : ℕ) (d : FaceTally) → (slice_index_or (put_by true (length parts - 1) part parts) k d).edges ≡ (slice_index_or parts k d).edges
-    same_sets h k d = elim (cases_eq k (length parts - 1)) as (λ _. (slice_index_or (put_by true (length parts - 1) part parts) k d).edges ≡ (slice_index_or parts k d).edges) [
+    same_sets : IsThere (length parts - 1) part parts → (k : ℕ) (d : FaceTally)
+        → (slice_index_or (put_by true (length parts - 1) part parts) k d).edges ≡ (slice_index_or parts k d).edges
+    same_sets h k d = elim (cases_eq k (length parts - 1)) as
+        (λ _. (slice_index_or (put_by true (length parts - 1) part parts) k d).edges ≡ (slice_index_or parts k d).edges) [
       | inl s ↦
           let new = joined (slice_index_or parts (length parts - 1) part) part in
           ap (λ (j : ℕ). (slice_index_or (slice_set parts (length parts - 1) new) j d).edges) s
@@ -232,7 +268,8 @@ put_ascends part parts up_to all = by_test (nat_lt (length parts - 1) (length pa
         let high = same_sets h (k + 1) d in
         rw (low, high) before
 
-    ends : (nat_lt (length parts - 1) (length parts) && ((slice_index_or parts (length parts - 1) part).edges == part.edges)) ≡ false → AscendsBySets (parts ++ part ∷ [])
+    ends : (nat_lt (length parts - 1) (length parts) && ((slice_index_or parts (length parts - 1) part).edges == part.edges)) ≡ false
+        → AscendsBySets (parts ++ part ∷ [])
     ends e = λ k d less. by_place k d (let size = length_push parts part in omega (arith, size, less)) (cases_lt (k + 1) (length parts))
       where
         differs : (k : ℕ) → k + 1 ≡ length parts → (slice_index_or parts k part).edges ≢ part.edges
@@ -241,7 +278,8 @@ put_ascends part parts up_to all = by_test (nat_lt (length parts - 1) (length pa
             let inside : nat_lt (length parts - 1) (length parts) ≡ true = grind (arith, nat_tests) in
             let equal : ((slice_index_or parts (length parts - 1) part).edges == part.edges) ≡ true =
             eq-eqb (slice_index_or parts (length parts - 1) part).edges part.edges (ap (λ (j : ℕ). (slice_index_or parts j part).edges) (sym there) ∙ same) in
-            both_ways (nat_lt (length parts - 1) (length parts) && ((slice_index_or parts (length parts - 1) part).edges == part.edges)) e (and_from _ _ inside equal)
+            both_ways (nat_lt (length parts - 1) (length parts) && ((slice_index_or parts (length parts - 1) part).edges == part.edges)) e
+                (and_from _ _ inside equal)
 
         by_place : (k : ℕ) (d : FaceTally) → k + 1 < length parts + 1 → (k + 1 < length parts) ⊎ (length parts ≤ k + 1)
             → (slice_index_or (parts ++ part ∷ []) k d).edges < (slice_index_or (parts ++ part ∷ []) (k + 1) d).edges
@@ -256,7 +294,8 @@ put_ascends part parts up_to all = by_test (nat_lt (length parts - 1) (length pa
             let below : (slice_index_or parts k part).edges < part.edges = omega arith in
             rw (get_or_append_left parts (part ∷ []) d k inside, get_or_push parts part d (k + 1) (sym at), any_default parts k d part inside) below
 
-    by_test : (b : Bool) → (nat_lt (length parts - 1) (length parts) && ((slice_index_or parts (length parts - 1) part).edges == part.edges)) ≡ b → AscendsBySets (put_by b (length parts - 1) part parts)
+    by_test : (b : Bool) → (nat_lt (length parts - 1) (length parts) && ((slice_index_or parts (length parts - 1) part).edges == part.edges)) ≡ b
+        → AscendsBySets (put_by b (length parts - 1) part parts)
     by_test true e = joins (is_there (length parts - 1) part parts e)
     by_test false e = ends e
 
@@ -267,7 +306,8 @@ pub record AreBelowRest (parts : List FaceTally) (i : ℕ) (tallies : List FaceT
 pub below_none : (parts : List FaceTally) → AreBelowRest parts 0 []
 below_none parts = record { bounded = λ j d low high k e less. absurd (let never : k < 0 = less in omega (arith, never)) }
 
-pub below_more : (parts : List FaceTally) (i place : ℕ) (part : FaceTally) (tallies : List FaceTally) → IsNonDecreasingBy (λ (t : FaceTally). t.edges) parts → i < length parts → part ≡ slice_index_or parts i part
+pub below_more : (parts : List FaceTally) (i place : ℕ) (part : FaceTally) (tallies : List FaceTally)
+    → IsNonDecreasingBy (λ (t : FaceTally). t.edges) parts → i < length parts → part ≡ slice_index_or parts i part
     → AreBelowRest parts i tallies → AreBelowRest parts (i + 1) (put_at place part tallies)
 below_more parts i place part tallies sorted inside read b = record {
   bounded = λ j d low high.
@@ -277,7 +317,9 @@ below_more parts i place part tallies sorted inside read b = record {
       subst (λ (t : FaceTally). t.edges ≤ (slice_index_or parts j d).edges) there rises);
 }
 
-pub ascends_more : (parts : List FaceTally) (i : ℕ) (part : FaceTally) (tallies : List FaceTally) → i < length parts → part ≡ slice_index_or parts i part → AreBelowRest parts i tallies → AscendsBySets tallies
+pub ascends_more : (parts : List FaceTally) (i : ℕ) (part : FaceTally) (tallies : List FaceTally) → i < length parts
+    → part ≡ slice_index_or parts i part → AreBelowRest parts i tallies → AscendsBySets tallies
     → AscendsBySets (put_at (length tallies - 1) part tallies)
 ascends_more parts i part tallies inside read b up_to =
-    put_ascends part tallies up_to (subst (λ (t : FaceTally). All (λ (s : FaceTally). s.edges ≤ t.edges) tallies) (sym read) (b.bounded i part (omega arith) inside))
+    put_ascends part tallies up_to
+        (subst (λ (t : FaceTally). All (λ (s : FaceTally). s.edges ≤ t.edges) tallies) (sym read) (b.bounded i part (omega arith) inside))

@@ -1,10 +1,11 @@
 -- Parts of tallies: counts and sums of faces, of which several may be of one face.
-use Rattle.std.specs.Prelude.{◌≡◌, ℕ, zero, suc, ◌+◌, ◌<◌, ◌≤◌, ℤ, pos, ◌+ℤ◌, unsigned_abs, Bool, false, ◌&&◌, ◌==◌, nat_lt, bit_and, List, [], ◌∷◌, ◌++◌, map, flat_map, length, sum_by, count_by, slice_index_or, slice_set, All, if◌then◌else◌}
-use Rattle.iso_model.specs.Orders.{numbers, is_distinct}
+use Rattle.std.specs.Prelude.{◌≡◌, ℕ, zero, suc, ◌+◌, ◌<◌, ◌≤◌, ℤ, pos, ◌+ℤ◌, unsigned_abs, Bool, false, ◌&&◌, ◌==◌, nat_lt, bit_and, List, [], ◌∷◌}
+use Rattle.std.specs.Prelude.{◌++◌, map, flat_map, length, sum_by, count_by, slice_index_or, slice_set, All, if◌then◌else◌}
+use Rattle.lists.specs.Orders.{numbers, is_distinct}
 use Rattle.iso_model.specs.Turns.{total, same_int}
 use Rattle.iso_model.specs.Faces.{face_without, sign_without}
-use Rattle.iso_model.specs.Hulls.{set_number}
 use Rattle.face_tallies.specs.declared.faces.FaceTally.{FaceTally}
+use Rattle.lists.specs.Bits.{set_number}
 
 -- the face of a tuple without one place, counted once, with its sign
 abbrev pub part_at : List ℕ → ℕ → FaceTally
@@ -42,7 +43,10 @@ joined t part = record { edges = t.edges; count = t.count + part.count; sum = t.
 -- the parts after one more, which is joined to the one at a place where that is of the same set, and else stands at the end
 abbrev pub put_at : ℕ → FaceTally → List FaceTally → List FaceTally
 put_at place part parts =
-    if nat_lt place (length parts) && ((slice_index_or parts place part).edges == part.edges) then slice_set parts place (joined (slice_index_or parts place part) part) else parts ++ part ∷ []
+    if nat_lt place (length parts)
+        && ((slice_index_or parts place part).edges == part.edges) then slice_set parts place (joined (slice_index_or parts place part) part) else
+              parts
+              ++ part ∷ []
 
 -- the new parts have at each set what the old ones and some more have
 pub record AddsParts (more old new : List FaceTally) : Type 0 where

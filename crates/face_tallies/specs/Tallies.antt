@@ -3,8 +3,8 @@ use Rattle.std.specs.Prelude.{◌≡◌, ℕ, ◌+◌, ◌<◌, List, map, lengt
 use Rattle.std.specs.List.{AllAdjacentBelow}
 use Rattle.std.specs.List.Sorted.{IsStrictlyIncreasing}
 use Rattle.iso_model.specs.Faces.{face_count, face_sum}
-use Rattle.iso_model.specs.Hulls.{set_number}
 use Rattle.face_tallies.specs.declared.faces.FaceTally.{FaceTally}
+use Rattle.lists.specs.Bits.{set_number}
 
 -- a face of tuples of D edges: D - 1 edges, in ascending order, each below 32
 pub record IsFace (d : ℕ) (face : List ℕ) : Type 0 where

@@ -1,10 +1,10 @@
 //! The faces of one tuple, with their signs.
 
 ghost use Rattle.std.specs.Prelude.{◌≡◌, ◌≢◌, ◌<◌, ◌≤◌, ◌%◌, ℕ, count_by, nat_lt, length, true, false, All, IfSome, IfNone};
-ghost use Rattle.iso_model.specs.Orders.{is_distinct, inversions};
-ghost use Rattle.iso_model.specs.Cells.{is_set};
+ghost use Rattle.lists.specs.Orders.{is_distinct, inversions};
 ghost use Rattle.edge_sets.specs.Sets.{IsSetOf};
 ghost use Rattle.face_tallies.specs.Parts.{part_at};
+ghost use Rattle.lists.specs.Bits.{is_set};
 
 use crate::faces::FaceTally;
 use edge_sets::has_member;

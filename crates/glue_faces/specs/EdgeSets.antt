@@ -1,7 +1,7 @@
 -- Sets of edges, written as numbers.
 use Rattle.std.specs.Prelude.{ℕ, List, filter}
-use Rattle.iso_model.specs.Orders.{numbers}
-use Rattle.iso_model.specs.Cells.{is_set}
+use Rattle.lists.specs.Orders.{numbers}
+use Rattle.lists.specs.Bits.{is_set}
 
 -- the edges below n whose bits are set, ascending
 abbrev pub edges_in : ℕ → ℕ → List ℕ

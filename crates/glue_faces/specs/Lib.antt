@@ -1,1 +1,2 @@
 pub mod EdgeSets
+pub mod Placing

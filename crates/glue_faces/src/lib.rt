@@ -1,13 +1,13 @@
 //! Laws that glue the meshes of cells. Their calls do nothing when they run; their contracts carry the laws.
 #![tactic(auto)]
 
-ghost use Rattle.std.specs.Prelude.{◌≡◌, ◌^◌, ◌<◌, None};
+ghost use Rattle.std.specs.Prelude.{◌≡◌, ◌^◌, ◌<◌};
 ghost use Rattle.iso_model.specs.Splits.{cell_count};
 ghost use Rattle.iso_model.specs.Neighbours.{ShareLaw};
-ghost use Rattle.iso_model.specs.Values.{IsRegularGrid, volume};
-ghost use Rattle.iso_model.specs.Placed.{placed_mesh};
+ghost use Rattle.iso_model.specs.Values.{IsRegularGrid};
 ghost use Rattle.iso_model.specs.Surface.{IsClosed, IsPlaced, IsSided, FacesAreOuter};
 ghost use Rattle.glue_faces.specs.EdgeSets.{edges_in};
+ghost use Rattle.glue_faces.specs.Placing.{whole, placed_simplices};
 
 #[cfg(test)]
 mod tests;
@@ -47,10 +47,10 @@ pub fn face_law<C: Split<D>, const D: usize>(
 )
     requires regular { IsRegularGrid grid.now }
     requires sizes { complex.now ≡ grid.now.sizes }
-    ensures closed { IsClosed (volume C.KIND grid.now iso None) (placed_mesh (volume C.KIND grid.now iso None) table.now).simplices }
-    ensures placed { IsPlaced (volume C.KIND grid.now iso None) (placed_mesh (volume C.KIND grid.now iso None) table.now).simplices }
-    ensures sided { IsSided (volume C.KIND grid.now iso None) (placed_mesh (volume C.KIND grid.now iso None) table.now).simplices }
-    ensures outer { FacesAreOuter (volume C.KIND grid.now iso None) (placed_mesh (volume C.KIND grid.now iso None) table.now).simplices }
+    ensures closed { IsClosed (whole C.KIND grid.now iso) (placed_simplices C.KIND grid.now iso table.now) }
+    ensures placed { IsPlaced (whole C.KIND grid.now iso) (placed_simplices C.KIND grid.now iso table.now) }
+    ensures sided { IsSided (whole C.KIND grid.now iso) (placed_simplices C.KIND grid.now iso table.now) }
+    ensures outer { FacesAreOuter (whole C.KIND grid.now iso) (placed_simplices C.KIND grid.now iso table.now) }
 {
     let _ = table.table();
     let _ = complex.cells();

@@ -1,19 +1,20 @@
 -- The placed simplices of lawful pieces are closed: the count and the sum of each of their faces.
-use Rattle.std.proofs.Common.{◌≡◌, ℕ, zero, suc, ◌<◌, Bool, true, false, List, [], ◌∷◌, length, refl, ap, sym, ◌∙◌, subst, arith}
+use Rattle.std.proofs.Common.{◌≡◌, ℕ, zero, suc, ◌<◌, Bool, true, false, List, [], ◌∷◌, length, ap, sym, ◌∙◌, subst, arith}
 use Rattle.std.specs.Prelude.{map, pos}
 use Rattle.std.proofs.lemmas.Int.{ints}
-use Rattle.std.proofs.lemmas.List.{length-map}
-use Rattle.iso_model.specs.Orders.{without, is_distinct, exchange_last}
+use Rattle.lists.specs.Orders.{without, is_distinct}
 use Rattle.iso_model.specs.Faces.{face_without, face_count, face_sum}
 use Rattle.iso_model.specs.Placed.{placed_tuple}
-use Rattle.mesh_laws.proofs.Sorting.{Distinct}
-use Rattle.mesh_laws.proofs.Members.{In, from_In-map, from_In-flat_map}
-use Rattle.mesh_laws.proofs.FaceSigns.{Part, rest, after, Distinct-exchange, distinct_test}
+use Rattle.mesh_laws.proofs.FaceSigns.{Part, rest, after, Distinct-exchange}
 use Rattle.mesh_laws.proofs.SignedFaces.{face_count_is, face_sum_is}
 use Rattle.glue_laws.proofs.Pieces.{Pieces, piece, placed_simplices, IsTuple, Laws, OnFree}
 use Rattle.glue_laws.proofs.OwnPart.{places_differ, part_of_placed}
 use Rattle.glue_laws.proofs.OneFace.{LocalFace, the_face}
-use Rattle.glue_laws.proofs.FreeFacets.{off_boundary, on_boundary}
+use Rattle.glue_laws.proofs.FreePieces.{off_boundary, on_boundary}
+use Rattle.lists.specs.Members.{In, Distinct}
+use Rattle.lists.proofs.MemberLaws.{from_In-map, from_In-flat_map}
+use Rattle.lists.proofs.DistinctLists.{distinct_test}
+use Rattle.iso_model.proofs.SignLaws.{length-placed}
 
 -- a list without one of its places is a part of it
 without-Part : (i : ℕ) (w : List ℕ) → i < length w → Part (without i w) w
@@ -21,18 +22,9 @@ without-Part i [] h = absurd (omega arith)
 without-Part zero (x ∷ w) h = rest
 without-Part (suc i) (x ∷ w) h = after (without-Part i w (omega arith))
 
-length-exchange : (w : List ℕ) → length (exchange_last w) ≡ length w
-length-exchange [] = refl
-length-exchange (x ∷ []) = refl
-length-exchange (x ∷ y ∷ []) = refl
-length-exchange (x ∷ y ∷ z ∷ w) = ap suc (length-exchange (y ∷ z ∷ w))
-
-length-placed : (odd : Bool) (f : ℕ → ℕ) (t : List ℕ) → length (placed_tuple odd f t) ≡ length t
-length-placed false f t = length-map t f
-length-placed true f t = length-exchange (map f t) ∙ length-map t f
-
 -- where all tuples have one length, all placed simplices have it
-pub lengths : (p : Pieces) (n : ℕ) → ((c : ℕ) (t : List ℕ) → In c p.cells → In t (p.entry c) → length t ≡ n) → (w : List ℕ) → In w (placed_simplices p) → length w ≡ n
+pub lengths : (p : Pieces) (n : ℕ) → ((c : ℕ) (t : List ℕ) → In c p.cells → In t (p.entry c) → length t ≡ n) → (w : List ℕ)
+    → In w (placed_simplices p) → length w ≡ n
 lengths p n long w i =
     let r = from_In-flat_map (piece p) p.cells w i in
     let s = from_In-map (placed_tuple (p.is_odd_cell r.0) (p.place r.0)) (p.entry r.0) w r.2 in
@@ -73,7 +65,8 @@ module _ (p : Pieces) (laws : Laws p) where
       )
 
   -- a face on a free facet has count 1
-  pub outside : (w : List ℕ) (i : ℕ) → In w (placed_simplices p) → i < length w → OnFree p (face_without w i) → face_count (placed_simplices p) (face_without w i) ≡ 1
+  pub outside : (w : List ℕ) (i : ℕ) → In w (placed_simplices p) → i < length w → OnFree p (face_without w i)
+      → face_count (placed_simplices p) (face_without w i) ≡ 1
   outside w i j h on =
       let s = source w i j h in
       let both = on_boundary p laws s.0 (subst (OnFree p) s.1 on) in

@@ -2,11 +2,12 @@
 use Rattle.std.proofs.Common.{◌≡◌, ℕ, Bool, true, false, List, refl, sym, subst, inl, inr}
 use Rattle.std.specs.Prelude.{map}
 use Rattle.std.proofs.lemmas.Bool.{cases_eq}
-use Rattle.iso_model.specs.Orders.{exchange_last}
+use Rattle.lists.specs.Orders.{exchange_last}
 use Rattle.iso_model.specs.Placed.{placed_tuple}
-use Rattle.mesh_laws.proofs.Members.{In, In-map, from_In-map, from_In-flat_map}
-use Rattle.mesh_laws.proofs.FaceSigns.{Each, Each-In, Each-from_In, Each-map, from_Each-map, Each-sorted, from_Each-sorted, sorted-exchange}
+use Rattle.mesh_laws.proofs.FaceSigns.{Each-sorted, from_Each-sorted, sorted-exchange}
 use Rattle.glue_laws.proofs.Pieces.{Pieces, Has, piece, placed_simplices, Laws}
+use Rattle.lists.specs.Members.{In, Each}
+use Rattle.lists.proofs.MemberLaws.{In-map, from_In-map, from_In-flat_map, Each-In, Each-from_In, Each-map, from_Each-map}
 
 Each-exchange : (D : ℕ → Type 0) (w : List ℕ) → Each D w → Each D (exchange_last w)
 Each-exchange D w all = from_Each-sorted D (exchange_last w) (subst (Each D) (sym (sorted-exchange w)) (Each-sorted D w all))
@@ -26,7 +27,11 @@ from_Each-placed D true f t all = from_Each-map D f t (from_Each-exchange D (map
 
 -- the place of a tuple's edge is a number of the placed tuple
 pub In-placed : (odd : Bool) (f : ℕ → ℕ) (t : List ℕ) (e : ℕ) → In e t → In (f e) (placed_tuple odd f t)
-In-placed odd f t e i = Each-In (λ x. In (f x) (placed_tuple odd f t)) t (from_Each-placed (λ y. In y (placed_tuple odd f t)) odd f t (Each-from_In (λ y. In y (placed_tuple odd f t)) (placed_tuple odd f t) (λ y j. j))) e i
+In-placed odd f t e i =
+    Each-In (λ x. In (f x) (placed_tuple odd f t)) t
+    (from_Each-placed (λ y. In y (placed_tuple odd f t)) odd f t
+    (Each-from_In (λ y. In y (placed_tuple odd f t)) (placed_tuple odd f t) (λ y j. j)))
+    e i
 
 module _ (p : Pieces) (laws : Laws p) where
   -- a simplex of a cell's piece has numbers of the cell alone

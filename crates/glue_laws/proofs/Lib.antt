@@ -4,6 +4,6 @@ pub mod SignCounts
 pub mod InFacets
 pub mod OwnPart
 pub mod OneFace
-pub mod FreeFacets
+pub mod FreePieces
 pub mod GluedFaces
 pub mod InOneCell

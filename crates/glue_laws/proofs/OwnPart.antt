@@ -1,17 +1,23 @@
--- What each cell adds to the count of a face with a sign: what its entry has of the tuples with this face, and nothing where the cell lacks a number of the face.
+-- What each cell adds to the count of a face with a sign: what its entry has of the tuples with this face, and nothing where the cell lacks a number
+-- of the face.
 use Rattle.std.proofs.Common.{◌≡◌, ℕ, ◌+◌, ◌≤◌, Bool, true, false, ◌&&◌, List, length, refl, ap, sym, ◌∙◌, subst, arith}
 use Rattle.std.specs.Prelude.{map, count_by, not}
 use Rattle.std.specs.List.{list_any}
 use Rattle.std.proofs.lemmas.Slice.Eq.{bytes_eq-Decides}
 use Rattle.std.proofs.lemmas.List.{length-map}
-use Rattle.iso_model.specs.Orders.{sorted, inversions, is_odd, is_distinct, exchange_last}
+use Rattle.lists.specs.Orders.{sorted, inversions, is_odd, is_distinct, exchange_last}
 use Rattle.iso_model.specs.Placed.{placed_tuple}
-use Rattle.mesh_laws.proofs.Sorting.{bit, count-map, Distinct}
-use Rattle.mesh_laws.proofs.Members.{In, from_In-map, from_any, count_none}
-use Rattle.mesh_laws.proofs.FaceSigns.{Each, Part, left_out, is_face, is_signed_face, has_signed, Part-Each, Part-map, Part-exchange, Each-In, Each-from_In, Each-map, Each-sorted, Distinct-map, Distinct-exchange, distinct_test, any_signed-exchange, left_out-Part, and_left, and_right}
+use Rattle.mesh_laws.proofs.FaceSigns.{Part, left_out, is_face, is_signed_face, has_signed, Part-Each, Part-map, Part-exchange, Each-sorted}
+use Rattle.mesh_laws.proofs.FaceSigns.{Distinct-map, Distinct-exchange, any_signed-exchange, left_out-Part}
 use Rattle.mesh_laws.proofs.SignedFaces.{has_signed-map}
 use Rattle.glue_laws.proofs.Pieces.{Pieces, AllBipolar, Has, local_count, piece, IsTuple, Laws}
 use Rattle.glue_laws.proofs.SignCounts.{count_same}
+use Rattle.lists.specs.Members.{In, Each, Distinct}
+use Rattle.lists.proofs.Tests.{and_left, and_right}
+use Rattle.lists.proofs.MemberLaws.{from_In-map, from_any, Each-In, Each-from_In, Each-map}
+use Rattle.lists.proofs.Sorting.{bit, count-map}
+use Rattle.lists.proofs.Counts.{count_none}
+use Rattle.lists.proofs.DistinctLists.{distinct_test}
 
 -- the exchange of the last two places takes each sign to the next
 signed-exchange : (m : ℕ) (face w : List ℕ) → Distinct w → 2 ≤ length w → has_signed m face (exchange_last w) ≡ has_signed (m + 1) face w
@@ -45,7 +51,8 @@ module _ (p : Pieces) (laws : Laws p) where
       ∙ count_same _ _ (p.entry c) (λ t j. placed_signed c m face t i ascends bipolar (laws.tuples c t i j) (p.is_odd_cell c))
 
   -- a part of a placed tuple is the image of a part of the tuple, in another order
-  pub part_of_placed : (c : ℕ) (t l : List ℕ) (odd : Bool) → Part l (placed_tuple odd (p.place c) t) → (k : List ℕ) × Part k t × (sorted l ≡ sorted (map (p.place c) k))
+  pub part_of_placed : (c : ℕ) (t l : List ℕ) (odd : Bool) → Part l (placed_tuple odd (p.place c) t)
+      → (k : List ℕ) × Part k t × (sorted l ≡ sorted (map (p.place c) k))
   part_of_placed c t l false q = let r = Part-map (p.place c) t q in (r.0, r.1, ap sorted r.2)
   part_of_placed c t l true q =
       let r = Part-exchange (map (p.place c) t) q in
@@ -67,7 +74,8 @@ module _ (p : Pieces) (laws : Laws p) where
   has_all d m face w i j h =
       let r = from_signed d m face w j h in
       let bipolar = Part-Each (λ e. p.is_bipolar d e ≡ true) r.3 (laws.tuples d r.0 i r.2).bipolar in
-      let all : Each (Has p d) (map (p.place d) r.1) = Each-map (Has p d) (p.place d) r.1 (Each-from_In _ r.1 (λ e k. (e, Each-In (λ x. p.is_bipolar d x ≡ true) r.1 bipolar e k, refl))) in
+      let all : Each (Has p d) (map (p.place d) r.1) =
+      Each-map (Has p d) (p.place d) r.1 (Each-from_In _ r.1 (λ e k. (e, Each-In (λ x. p.is_bipolar d x ≡ true) r.1 bipolar e k, refl))) in
       subst (Each (Has p d)) (sym r.4) (Each-sorted (Has p d) _ all)
 
   -- a cell that does not have them all adds nothing

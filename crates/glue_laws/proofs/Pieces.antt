@@ -1,11 +1,11 @@
 -- Cells with entries of tuples of local edges, each edge with its place in one list: the laws under which the placed simplices are closed.
 use Rattle.std.proofs.Common.{◌≡◌, ℕ, ◌+◌, ◌<◌, ◌≤◌, Bool, true, List, length, Option, Some, None}
 use Rattle.std.specs.Prelude.{map, count_by, flat_map, ◌≢◌}
-use Rattle.iso_model.specs.Orders.{sorted}
+use Rattle.lists.specs.Orders.{sorted}
 use Rattle.iso_model.specs.Placed.{placed_tuple}
-use Rattle.mesh_laws.proofs.Sorting.{bit, Distinct}
-use Rattle.mesh_laws.proofs.Members.{In}
-use Rattle.mesh_laws.proofs.FaceSigns.{Each, Part, has_signed}
+use Rattle.mesh_laws.proofs.FaceSigns.{Part, has_signed}
+use Rattle.lists.specs.Members.{In, Each, Distinct}
+use Rattle.lists.proofs.Sorting.{bit}
 
 pub record Pieces : Type 0 where
   pub cells : List ℕ
@@ -66,13 +66,15 @@ module _ (p : Pieces) where
     pub not_flat : (c : ℕ) (t : List ℕ) (f : ℕ) → In c p.cells → In t (p.entry c) → f < p.facets → ¬ AllIn f t
     pub covers : (c e : ℕ) → In c p.cells → p.is_bipolar c e ≡ true → (t : List ℕ) × In t (p.entry c) × In e t
     -- neighbours
-    pub leads_back : (c f d g : ℕ) → In c p.cells → f < p.facets → p.across c f ≡ Some (d, g) → In d p.cells × (c ≢ d) × (g < p.facets) × (p.across d g ≡ Some (c, f))
+    pub leads_back : (c f d g : ℕ) → In c p.cells → f < p.facets → p.across c f ≡ Some (d, g)
+        → In d p.cells × (c ≢ d) × (g < p.facets) × (p.across d g ≡ Some (c, f))
     pub seam_keeps : (c f d g e : ℕ) → In c p.cells → f < p.facets → p.across c f ≡ Some (d, g) → p.is_bipolar c e ≡ true → p.in_facet f e ≡ true →
         (p.is_bipolar d (p.seam c f e) ≡ true) × (p.in_facet g (p.seam c f e) ≡ true) × (p.place d (p.seam c f e) ≡ p.place c e)
     pub seam_order : (c f d g a b : ℕ) → In c p.cells → f < p.facets → p.across c f ≡ Some (d, g) → p.is_bipolar c a ≡ true → p.is_bipolar c b ≡ true →
         p.in_facet f a ≡ true → p.in_facet f b ≡ true → a ≤ b → p.seam c f a ≤ p.seam c f b
     -- the rule across seams: opposite sums where the parity is the same, equal ones where it is opposite
-    pub matches : (c f d g m : ℕ) (face : List ℕ) → In c p.cells → f < p.facets → p.across c f ≡ Some (d, g) → sorted face ≡ face → AllBipolar c face → AllIn f face →
+    pub matches : (c f d g m : ℕ) (face : List ℕ) → In c p.cells → f < p.facets → p.across c f ≡ Some (d, g) → sorted face ≡ face → AllBipolar c face
+        → AllIn f face →
         local_count d m (map (p.seam c f) face) ≡ local_count c (m + 1 + bit (p.is_odd_cell c) + bit (p.is_odd_cell d)) face
     -- the share law
     pub shares : (c d : ℕ) (es : List ℕ) → In c p.cells → In d p.cells → c ≢ d → AllBipolar c es → Each (λ e. Has d (p.place c e)) es →

@@ -1,10 +1,10 @@
 -- How many tuples of a list have a face with a sign: only the parity of the turns counts, and two signs that follow each other are both.
 use Rattle.std.proofs.Common.{◌≡◌, ℕ, ◌+◌, Bool, List, [], ◌∷◌, refl, ap, ◌∙◌, arith, inl, inr}
 use Rattle.std.specs.Prelude.{count_by, ◌%◌, ◌⊎◌}
-use Rattle.mesh_laws.proofs.Sorting.{bit, count_by-cons}
-use Rattle.mesh_laws.proofs.Members.{In}
 use Rattle.mesh_laws.proofs.FaceSigns.{has_signed}
 use Rattle.mesh_laws.proofs.SignedFaces.{has_signed_parity}
+use Rattle.lists.specs.Members.{In}
+use Rattle.lists.proofs.Sorting.{bit, count_by-cons}
 
 -- two tests that agree on the members count the same
 pub count_same : {X : Type 0} (s t : X → Bool) (xs : List X) → ((x : X) → In x xs → s x ≡ t x) → count_by s xs ≡ count_by t xs
@@ -21,7 +21,8 @@ module _ (face : List ℕ) (ts : List (List ℕ)) where
   sign_parity a b same = count_same (has_signed a face) (has_signed b face) ts (λ t i. has_signed_parity a b face t same)
 
   -- two signs that follow each other are both signs
-  pub both_signs : (a b : ℕ) → b % 2 ≡ (a + 1) % 2 → count_by (has_signed a face) ts + count_by (has_signed b face) ts ≡ count_by (has_signed 0 face) ts + count_by (has_signed 1 face) ts
+  pub both_signs : (a b : ℕ) → b % 2 ≡ (a + 1) % 2
+      → count_by (has_signed a face) ts + count_by (has_signed b face) ts ≡ count_by (has_signed 0 face) ts + count_by (has_signed 1 face) ts
   both_signs a b next = elim (parity_or a) [
     | inl even ↦ omega (arith, sign_parity a 0 even, sign_parity b 1 (omega (arith, even, next)))
     | inr odd ↦ omega (arith, sign_parity a 1 odd, sign_parity b 0 (omega (arith, odd, next)))

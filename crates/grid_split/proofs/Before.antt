@@ -3,14 +3,15 @@ use Rattle.std.proofs.Common.{◌≡◌, ℕ, zero, suc, ◌+◌, ◌<◌, Bool,
 use Rattle.std.specs.Prelude.{◌==◌, nat_lt, slice_index, take, if◌then◌else◌}
 use Rattle.std.proofs.lemmas.Bool.{cases_eq}
 use Rattle.std.proofs.lemmas.Bool.Decides.{nat_tests}
-use Rattle.iso_model.specs.Orders.{same_list}
+use Rattle.lists.specs.Orders.{same_list}
 use Rattle.iso_model.specs.Points.{comes_first}
 
 and_assoc : (a b c : Bool) → (a && (b && c)) ≡ ((a && b) && c)
 and_assoc true b c = refl
 and_assoc false b c = refl
 
-same_suc : (p q : List ℕ) (i : ℕ) → i < length p → length q ≡ length p → same_list (take (suc i) p) (take (suc i) q) ≡ (same_list (take i p) (take i q) && (slice_index p i == slice_index q i))
+same_suc : (p q : List ℕ) (i : ℕ) → i < length p → length q ≡ length p
+    → same_list (take (suc i) p) (take (suc i) q) ≡ (same_list (take i p) (take i q) && (slice_index p i == slice_index q i))
 same_suc [] q i h e = absurd (omega (arith, h))
 same_suc (x ∷ p) [] i h e = absurd (omega (arith, e))
 same_suc (x ∷ p) (y ∷ q) zero h e = and_true (x == y)
@@ -19,7 +20,8 @@ same_suc (x ∷ p) (y ∷ q) zero h e = and_true (x == y)
     and_true true = refl
     and_true false = refl
 same_suc (x ∷ p) (y ∷ q) (suc i) h e =
-    ap (λ (b : Bool). (x == y) && b) (same_suc p q i (omega (arith, h)) (omega (arith, e))) ∙ and_assoc (x == y) (same_list (take i p) (take i q)) (slice_index p i == slice_index q i)
+    ap (λ (b : Bool). (x == y) && b) (same_suc p q i (omega (arith, h)) (omega (arith, e)))
+    ∙ and_assoc (x == y) (same_list (take i p) (take i q)) (slice_index p i == slice_index q i)
 
 one_axis : (x y : ℕ) → nat_lt x y ≡ (if x == y then false else nat_lt x y)
 one_axis x y = elim (cases_eq x y) [
@@ -43,7 +45,8 @@ join false l c false t = or_false l
     or_false false = refl
 
 before_suc : (p q : List ℕ) (i : ℕ) → i < length p → length q ≡ length p →
-    comes_first (take (suc i) p) (take (suc i) q) ≡ (if slice_index p i == slice_index q i then comes_first (take i p) (take i q) else nat_lt (slice_index p i) (slice_index q i))
+    comes_first (take (suc i) p) (take (suc i) q)
+    ≡ (if slice_index p i == slice_index q i then comes_first (take i p) (take i q) else nat_lt (slice_index p i) (slice_index q i))
 before_suc [] q i h e = absurd (omega (arith, h))
 before_suc (x ∷ p) [] i h e = absurd (omega (arith, e))
 before_suc (x ∷ p) (y ∷ q) zero h e = one_axis x y
@@ -51,11 +54,17 @@ before_suc (x ∷ p) (y ∷ q) (suc i) h e =
     let rest = before_suc p q i (omega (arith, h)) (omega (arith, e)) in
     let same = same_suc p q i (omega (arith, h)) (omega (arith, e)) in
     ap (λ (b : Bool). b || (same_list (take (suc i) p) (take (suc i) q) && nat_lt x y)) rest
-    ∙ ap (λ (b : Bool). (if slice_index p i == slice_index q i then comes_first (take i p) (take i q) else nat_lt (slice_index p i) (slice_index q i)) || (b && nat_lt x y)) same
-    ∙ join (slice_index p i == slice_index q i) (nat_lt (slice_index p i) (slice_index q i)) (comes_first (take i p) (take i q)) (same_list (take i p) (take i q)) (nat_lt x y)
+    ∙ ap
+    (λ (b : Bool).
+    (if slice_index p i == slice_index q i then comes_first (take i p) (take i q) else nat_lt (slice_index p i) (slice_index q i))
+    || (b && nat_lt x y))
+    same
+    ∙ join (slice_index p i == slice_index q i) (nat_lt (slice_index p i) (slice_index q i)) (comes_first (take i p) (take i q))
+    (same_list (take i p) (take i q)) (nat_lt x y)
 
 pub before_more : (p q : List ℕ) (i : ℕ) → i < length p → length q ≡ length p →
-    comes_first (take (i + 1) p) (take (i + 1) q) ≡ (if slice_index p i == slice_index q i then comes_first (take i p) (take i q) else nat_lt (slice_index p i) (slice_index q i))
+    comes_first (take (i + 1) p) (take (i + 1) q)
+    ≡ (if slice_index p i == slice_index q i then comes_first (take i p) (take i q) else nat_lt (slice_index p i) (slice_index q i))
 before_more p q i h e = rw add-one (before_suc p q i h e)
 
 pub take_all : (xs : List ℕ) (n : ℕ) → length xs ≡ n → take n xs ≡ xs

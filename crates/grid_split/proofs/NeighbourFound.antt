@@ -10,9 +10,10 @@ use Rattle.iso_model.specs.Cells.{facet_count}
 use Rattle.iso_model.specs.Splits.{cells_per_cube, cell_count, cube_count, cube_at, cube_of, rank_of}
 use Rattle.iso_model.specs.Neighbours.{facet_points, facet_offsets, shift_across, IsAcross, IsNeighbour, OnOuterBoundary}
 use Rattle.split_laws.specs.Standing.{shift_at, StandsAcross, LeavesGrid}
-use Rattle.split_laws.proofs.Members.{at_numbers}
 use Rattle.split_laws.proofs.Coordinates.{lists_same, length-cube_at, cell_fixed, cube_below, cube_in}
 use Rattle.grid_split.specs.Steps.{IsStep, LeavesCubes, IsShiftedCube}
+use Rattle.lists.proofs.MemberLaws.{at_numbers}
+use Rattle.std.proofs.lemmas.Option.{same_Some}
 
 -- the shift across a facet is a step in each axis
 one_step : (a b : Bool) → IsStep (if a then negsuc 0 else if b then pos 1 else pos 0)
@@ -30,18 +31,18 @@ steps_across kind d rank f i h =
     b : ℕ → Bool
     b j = list_all (λ p. slice_index p j == 2) (facet_offsets kind d rank f)
 
-some_same : (a b : ℕ) → Some a ≡ Some b → a ≡ b
-some_same a b e = cc
-
-module _ (kind : Kind) (sizes : List ℕ) (d cell f rank o g : ℕ) (cube : List ℕ) (shift : List ℤ) (long : length sizes ≡ d) (hc : cell < cell_count kind sizes) (hf : f < facet_count kind d)
-    (cube_is : cube ≡ cube_of kind sizes cell) (rank_is : rank ≡ rank_of kind sizes cell) (shift_is : shift ≡ shift_across kind d rank f) (across : IsAcross kind d rank f o g)
+module _ (kind : Kind) (sizes : List ℕ) (d cell f rank o g : ℕ) (cube : List ℕ) (shift : List ℤ) (long : length sizes ≡ d)
+    (hc : cell < cell_count kind sizes) (hf : f < facet_count kind d)
+    (cube_is : cube ≡ cube_of kind sizes cell) (rank_is : rank ≡ rank_of kind sizes cell) (shift_is : shift ≡ shift_across kind d rank f)
+    (across : IsAcross kind d rank f o g)
     (stands : (other : ℕ) → IsNeighbour kind sizes cell f other ↔ StandsAcross kind sizes cell f other)
     (leaves : OnOuterBoundary sizes (facet_points kind sizes cell f) ↔ LeavesGrid kind sizes cell f)
     (one : (p h : ℕ) → IsAcross kind d rank f p h → o ≡ p) where
   -- the shift of the cell's cube, in the words of the grid
   shift_here : (i : ℕ) → slice_index_or shift i (pos 0) ≡ shift_at kind sizes cell f i
   shift_here i =
-      ap (λ (s : List ℤ). slice_index_or s i (pos 0)) (shift_is ∙ ap (λ (n : ℕ). shift_across kind n rank f) (sym long) ∙ ap (λ (r : ℕ). shift_across kind (length sizes) r f) rank_is)
+      ap (λ (s : List ℤ). slice_index_or s i (pos 0))
+      (shift_is ∙ ap (λ (n : ℕ). shift_across kind n rank f) (sym long) ∙ ap (λ (r : ℕ). shift_across kind (length sizes) r f) rank_is)
 
   cube_here : (i : ℕ) → slice_index cube i ≡ slice_index (cube_of kind sizes cell) i
   cube_here i = ap (λ (x : List ℕ). slice_index x i) cube_is
@@ -52,7 +53,9 @@ module _ (kind : Kind) (sizes : List ℕ) (d cell f rank o g : ℕ) (cube : List
   -- the rank and the facet across, of another cell whose rank is known
   known_rank : (other : ℕ) → StandsAcross kind sizes cell f other → o ≡ rank_of kind sizes other
   known_rank other s =
-      one (rank_of kind sizes other) s.facet.0 (subst (λ (r : ℕ). IsAcross kind d r f (rank_of kind sizes other) s.facet.0) (sym rank_is) (subst (λ (n : ℕ). IsAcross kind n (rank_of kind sizes cell) f (rank_of kind sizes other) s.facet.0) long s.facet.1))
+      one (rank_of kind sizes other) s.facet.0
+      (subst (λ (r : ℕ). IsAcross kind d r f (rank_of kind sizes other) s.facet.0) (sym rank_is)
+      (subst (λ (n : ℕ). IsAcross kind n (rank_of kind sizes cell) f (rank_of kind sizes other) s.facet.0) long s.facet.1))
 
   module _ (number : ℕ) (at : IsShiftedCube d sizes cube shift number) where
     abbrev found : ℕ
@@ -67,7 +70,8 @@ module _ (kind : Kind) (sizes : List ℕ) (d cell f rank o g : ℕ) (cube : List
     is_cell : found < cell_count kind sizes
     is_cell =
         subst (λ (n : ℕ). found < cube_count sizes * n) per_here
-        (subst (λ (n : ℕ). found < n) (mul_comm (cells_per_cube kind d) (cube_count sizes)) (mul-add-lt number (cells_per_cube kind d) o (cube_count sizes) at.below across.is_rank))
+        (subst (λ (n : ℕ). found < n) (mul_comm (cells_per_cube kind d) (cube_count sizes))
+        (mul-add-lt number (cells_per_cube kind d) o (cube_count sizes) at.below across.is_rank))
 
     cube_found : cube_of kind sizes found ≡ cube_at sizes number
     cube_found = ap (cube_at sizes) quotient
@@ -75,7 +79,11 @@ module _ (kind : Kind) (sizes : List ℕ) (d cell f rank o g : ℕ) (cube : List
     found_stands : StandsAcross kind sizes cell f found
     found_stands = record {
       is_cell = is_cell;
-      cube = λ i h. ap (λ (x : List ℕ). pos (slice_index x i)) cube_found ∙ at.places i (omega (arith, h, long)) ∙ ap (λ (x : ℕ). pos x +ℤ slice_index_or shift i (pos 0)) (cube_here i) ∙ ap (λ (s : ℤ). pos (slice_index (cube_of kind sizes cell) i) +ℤ s) (shift_here i);
+      cube =
+          λ i h.
+          ap (λ (x : List ℕ). pos (slice_index x i)) cube_found ∙ at.places i (omega (arith, h, long))
+          ∙ ap (λ (x : ℕ). pos x +ℤ slice_index_or shift i (pos 0)) (cube_here i)
+          ∙ ap (λ (s : ℤ). pos (slice_index (cube_of kind sizes cell) i) +ℤ s) (shift_here i);
       facet = (
         g,
         subst (λ (q : ℕ). IsAcross kind (length sizes) (rank_of kind sizes cell) f q g) (sym remainder)
@@ -86,7 +94,9 @@ module _ (kind : Kind) (sizes : List ℕ) (d cell f rank o g : ℕ) (cube : List
     same_as_found : (other : ℕ) → StandsAcross kind sizes cell f other → found ≡ other
     same_as_found other s =
         cell_fixed kind sizes found other is_cell s.is_cell
-        (lists_same (cube_of kind sizes found) (cube_of kind sizes other) (length-cube_at sizes (found / cells_per_cube kind (length sizes)) ∙ sym (length-cube_at sizes (other / cells_per_cube kind (length sizes)))) (λ i h.
+        (lists_same (cube_of kind sizes found) (cube_of kind sizes other)
+        (length-cube_at sizes (found / cells_per_cube kind (length sizes))
+        ∙ sym (length-cube_at sizes (other / cells_per_cube kind (length sizes)))) (λ i h.
         let in_axes : i < length sizes = omega (arith, h, length-cube_at sizes (found / cells_per_cube kind (length sizes))) in
         omega (arith, ints, found_stands.cube i in_axes, s.cube i in_axes)))
         (remainder ∙ known_rank other s)
@@ -94,7 +104,7 @@ module _ (kind : Kind) (sizes : List ℕ) (d cell f rank o g : ℕ) (cube : List
     pub some_neighbour : (other : ℕ) → IsNeighbour kind sizes cell f other ↔ (Some found ≡ Some other)
     some_neighbour other = (
       λ nb. ap (λ (n : ℕ). Some n) (same_as_found other ((stands other).0 nb)),
-      λ e. subst (IsNeighbour kind sizes cell f) (some_same found other e) ((stands found).1 found_stands),
+      λ e. subst (IsNeighbour kind sizes cell f) (same_Some found other e) ((stands found).1 found_stands),
     )
 
     inside_at : (i : ℕ) → i < length sizes → slice_index (cube_at sizes number) i + 1 < slice_index sizes i

@@ -1,20 +1,19 @@
 -- The tables of the splits, compared with the definitions by computing.
-use Rattle.std.proofs.Common.{◌≡◌, ℕ, ◌+◌, ◌-◌, ◌*◌, ◌%◌, ◌<◌, false, List, [], length, refl, ap, sym, ◌∙◌, arith, ℤ, pos, ◌≢◌, slice_index_or, slice_set, get_or-set_other, get_or-set_same, below_more}
-use Rattle.std.proofs.Math.ListN.{length-set}
+use Rattle.std.proofs.Common.{◌≡◌, ℕ, ◌+◌, ◌-◌, ◌*◌, ◌%◌, ◌<◌, false, List, [], refl, ap, sym, ◌∙◌, arith, ℤ, slice_index_or}
 use Rattle.std.specs.Prelude.{map, nat_lt, if◌then◌else◌}
 use Rattle.iso_model.specs.declared.Kind.TheVariants.{Cube, Simplex, Pyramid}
-use Rattle.iso_model.specs.Orders.{numbers}
+use Rattle.lists.specs.Orders.{numbers}
 use Rattle.iso_model.specs.Points.{axes}
 use Rattle.iso_model.specs.Splits.{cells_per_cube, corner_offset, is_odd_rank}
 use Rattle.iso_model.specs.Neighbours.{shift_across}
-use Rattle.cell_lattice.specs.Dimensions.{IsDimension, in_each_dimension}
+use Rattle.iso_model.specs.Dimensions.{IsDimension, in_each_dimension}
 use Rattle.cell_lattice.specs.Agreement.{agree, agree_in_each}
 use Rattle.split_checks.specs.AcrossTests.{next_across, next_at, all_facets, facet_at, move_across}
-use Rattle.split_laws.proofs.Members.{at_numbers}
 use Rattle.split_laws.proofs.Across.{next_of, less_one, shift_is, listed}
 use Rattle.grid_split.specs.Shifts.{shift_along_axis, first_order, other_facet, shift_at_place}
 use Rattle.grid_split.specs.declared.simplices.TheConstants.{PLACES, ODD, ACROSS}
 use Rattle.grid_split.specs.declared.pyramids.TheConstants.{SHIFTS, ACROSS as PYRAMIDS}
+use Rattle.lists.proofs.MemberLaws.{at_numbers}
 
 -- ---- two numbers
 
@@ -27,16 +26,6 @@ agree_twice n m f g two three four d is r k hr hk =
     agree (m d) (f d r) (g d r) (agree_in_each n (λ e s. map (f e s) (numbers (m e))) (λ e s. map (g e s) (numbers (m e))) two three four d is r hr) k hk
 
 -- ---- a loop that fills a list of whole numbers
-
-pub set_next : (f : ℕ → ℤ) (xs : List ℤ) (a n : ℕ) (v : ℤ) → length xs ≡ n → a < n → ((i : ℕ) → i < a → slice_index_or xs i (pos 0) ≡ f i) → v ≡ f a →
-    (length (slice_set xs a v) ≡ n) × ((i : ℕ) → i < a + 1 → slice_index_or (slice_set xs a v) i (pos 0) ≡ f i)
-set_next f xs a n v long inside before here =
-    let at : a < length xs = omega (arith, long, inside) in (
-      simp length-set long,
-      below_more (λ i. slice_index_or (slice_set xs a v) i (pos 0) ≡ f i) a
-          (λ i h. let apart : i ≢ a = omega (arith, h) in rw get_or-set_other (before i h))
-          (rw get_or-set_same here),
-    )
 
 -- ---- cubes
 
@@ -60,7 +49,8 @@ place_at d r i = slice_index_or (slice_index_or PLACES (first_order d + r) []) i
 pub simplex_offset : (d : ℕ) → IsDimension d → (r k : ℕ) → r < cells_per_cube Simplex d → k < d + 1 →
     map (λ i. if nat_lt (place_at d r i) k then 2 else 0) (axes d) ≡ corner_offset Simplex d r k
 simplex_offset =
-    agree_twice (cells_per_cube Simplex) (λ d. d + 1) (λ d r k. map (λ i. if nat_lt (place_at d r i) k then 2 else 0) (axes d)) (corner_offset Simplex) refl refl refl
+    agree_twice (cells_per_cube Simplex) (λ d. d + 1) (λ d r k. map (λ i. if nat_lt (place_at d r i) k then 2 else 0) (axes d))
+    (corner_offset Simplex) refl refl refl
 
 pub simplex_odd : (d : ℕ) → IsDimension d → (r : ℕ) → r < cells_per_cube Simplex d → slice_index_or ODD (first_order d + r) false ≡ is_odd_rank Simplex d r
 simplex_odd = agree_in_each (cells_per_cube Simplex) (λ d r. slice_index_or ODD (first_order d + r) false) (is_odd_rank Simplex) refl refl refl
@@ -75,12 +65,18 @@ shifts_written d = map (λ r. map (λ f. map (λ i. shift_at_place (place_at d r
 same_shifts : (d : ℕ) → IsDimension d → shifts_written d ≡ shifts_listed d (all_facets Simplex d)
 same_shifts = in_each_dimension (λ d. shifts_written d ≡ shifts_listed d (all_facets Simplex d)) refl refl refl
 
-pub simplex_shift : (d : ℕ) → IsDimension d → (r f : ℕ) → r < cells_per_cube Simplex d → f < d + 1 → map (λ i. shift_at_place (place_at d r i) f d) (axes d) ≡ shift_across Simplex d r f
+pub simplex_shift : (d : ℕ) → IsDimension d → (r f : ℕ) → r < cells_per_cube Simplex d → f < d + 1
+    → map (λ i. shift_at_place (place_at d r i) f d) (axes d) ≡ shift_across Simplex d r f
 simplex_shift d is r f hr hf =
     sym (at_numbers (λ g. map (λ i. shift_at_place (place_at d r i) g d) (axes d)) (d + 1) f [] hf)
-    ∙ sym (ap (λ (row : List (List ℤ)). slice_index_or row f []) (at_numbers (λ s. map (λ g. map (λ i. shift_at_place (place_at d s i) g d) (axes d)) (numbers (d + 1))) (cells_per_cube Simplex d) r [] hr))
+    ∙ sym
+    (ap (λ (row : List (List ℤ)). slice_index_or row f [])
+    (at_numbers (λ s. map (λ g. map (λ i. shift_at_place (place_at d s i) g d) (axes d)) (numbers (d + 1))) (cells_per_cube Simplex d) r []
+    hr))
     ∙ ap (λ (rows : List (List (List ℤ))). slice_index_or (slice_index_or rows r []) f []) (same_shifts d is)
-    ∙ ap (λ (row : List (List ℤ)). slice_index_or row f []) (at_numbers (λ s. map (λ g. map less_one (move_across d (facet_at (all_facets Simplex d) s g))) (numbers (d + 1))) (cells_per_cube Simplex d) r [] hr)
+    ∙ ap (λ (row : List (List ℤ)). slice_index_or row f [])
+    (at_numbers (λ s. map (λ g. map less_one (move_across d (facet_at (all_facets Simplex d) s g))) (numbers (d + 1))) (cells_per_cube Simplex d)
+    r [] hr)
     ∙ at_numbers (λ g. map less_one (move_across d (facet_at (all_facets Simplex d) r g))) (d + 1) f [] hf
     ∙ ap (λ (here : List (List ℕ)). map less_one (move_across d here)) (listed Simplex d r f hr hf)
     ∙ sym (shift_is Simplex d r f)
@@ -89,7 +85,9 @@ abbrev pub next_written : ℕ → ℕ → ℕ → ℕ × ℕ
 next_written d r f = (slice_index_or (slice_index_or ACROSS (first_order d + r) []) f 0, other_facet d f)
 
 same_next : (d : ℕ) → IsDimension d → next_across Simplex d ≡ map (λ r. map (next_written d r) (numbers (d + 1))) (numbers (cells_per_cube Simplex d))
-same_next = in_each_dimension (λ d. next_across Simplex d ≡ map (λ r. map (next_written d r) (numbers (d + 1))) (numbers (cells_per_cube Simplex d))) refl refl refl
+same_next =
+    in_each_dimension (λ d. next_across Simplex d ≡ map (λ r. map (next_written d r) (numbers (d + 1))) (numbers (cells_per_cube Simplex d))) refl
+    refl refl
 
 pub simplex_next : (d : ℕ) → IsDimension d → (r f : ℕ) → r < cells_per_cube Simplex d → f < d + 1 → next_of Simplex d r f ≡ next_written d r f
 simplex_next d is r f hr hf =

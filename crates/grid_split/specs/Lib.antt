@@ -1,3 +1,4 @@
 pub mod Shifts
 pub mod Strides
 pub mod Steps
+pub mod Laws

@@ -6,7 +6,7 @@ ghost use Rattle.std.specs.Prelude.{◌≡◌, slice_index, nat_lt, if◌then◌
 ghost use Rattle.iso_model.specs.Cells.{corner_count, facet_count};
 ghost use Rattle.iso_model.specs.Splits.{cells_per_cube, corner_offset, is_odd_rank};
 ghost use Rattle.iso_model.specs.Neighbours.{shift_across, IsAcross};
-ghost use Rattle.cell_lattice.specs.Dimensions.{IsDimension};
+ghost use Rattle.iso_model.specs.Dimensions.{IsDimension};
 ghost use Rattle.grid_split.specs.Shifts.{shift_along_axis};
 
 use crate::Split;

@@ -1,9 +1,8 @@
-ghost use Rattle.std.specs.Prelude.{◌≡◌, ℕ, ◌<◌, ◌≤◌, ◌↔◌, List, length, slice_index};
-ghost use Rattle.iso_model.specs.Splits.{cells_per_cube, cell_count, corner_offset, is_odd_rank};
-ghost use Rattle.iso_model.specs.Neighbours.{shift_across, facet_points, IsAcross, IsNeighbour, OnOuterBoundary, HaveOwnMidpoints, ShareLaw};
-ghost use Rattle.iso_model.specs.SplitLaws.{AcrossLeadsBack, HasOwnCorners, HasFlatSides, AreJoined, KeepsTurns};
-ghost use Rattle.iso_model.specs.Cells.{facet_count};
-ghost use Rattle.split_laws.specs.Standing.{StandsAcross, LeavesGrid};
+ghost use Rattle.std.specs.Prelude.{◌≡◌, ℕ, ◌<◌, ◌≤◌, List, length, slice_index};
+ghost use Rattle.iso_model.specs.Splits.{cells_per_cube, corner_offset, is_odd_rank};
+ghost use Rattle.iso_model.specs.Neighbours.{shift_across, IsAcross, HaveOwnMidpoints};
+ghost use Rattle.iso_model.specs.SplitLaws.{HasOwnCorners, HasFlatSides};
+ghost use Rattle.grid_split.specs.Laws.{LeadsBack, HasOneAcross, JoinsFacets, KeepsAllTurns, SharesFacets, HasNeighboursAcross, LeavesAtBoundary};
 
 use cell_lattice::Cell;
 
@@ -46,9 +45,9 @@ pub trait Split<const D: usize>: Cell<D> {
 
     ghost few_ranks: { (1 ≤ PER_CUBE) × (PER_CUBE ≤ 24) };
 
-    ghost leads_back: { (rank f other g : ℕ) → rank < cells_per_cube Self.KIND D → f < facet_count Self.KIND D → AcrossLeadsBack Self.KIND D rank f other g };
+    ghost leads_back: { LeadsBack Self.KIND D };
 
-    ghost one_across: { (rank f o g p h : ℕ) → rank < cells_per_cube Self.KIND D → f < facet_count Self.KIND D → IsAcross Self.KIND D rank f o g → IsAcross Self.KIND D rank f p h → (o ≡ p) × (g ≡ h) };
+    ghost one_across: { HasOneAcross Self.KIND D };
 
     ghost own_corners: { (rank : ℕ) → rank < cells_per_cube Self.KIND D → HasOwnCorners Self.KIND D rank };
 
@@ -56,13 +55,13 @@ pub trait Split<const D: usize>: Cell<D> {
 
     ghost own_midpoints: { (sizes : List ℕ) → length sizes ≡ D → HaveOwnMidpoints Self.KIND sizes };
 
-    ghost joined: { (rank f other g : ℕ) → rank < cells_per_cube Self.KIND D → f < facet_count Self.KIND D → AreJoined Self.KIND D rank f other g };
+    ghost joined: { JoinsFacets Self.KIND D };
 
-    ghost turns_kept: { (rank : ℕ) (rows : List ((ℕ × ℕ) × (ℕ × ℕ))) → rank < cells_per_cube Self.KIND D → KeepsTurns Self.KIND D rank rows };
+    ghost turns_kept: { KeepsAllTurns Self.KIND D };
 
-    ghost shares: { (sizes : List ℕ) → length sizes ≡ D → (cell other : ℕ) (es : List ℕ) → ShareLaw Self.KIND sizes cell other es };
+    ghost shares: { SharesFacets Self.KIND D };
 
-    ghost stands: { (sizes : List ℕ) → length sizes ≡ D → (cell f other : ℕ) → cell < cell_count Self.KIND sizes → f < facet_count Self.KIND D → IsNeighbour Self.KIND sizes cell f other ↔ StandsAcross Self.KIND sizes cell f other };
+    ghost stands: { HasNeighboursAcross Self.KIND D };
 
-    ghost leaves: { (sizes : List ℕ) → length sizes ≡ D → (cell f : ℕ) → cell < cell_count Self.KIND sizes → f < facet_count Self.KIND D → OnOuterBoundary sizes (facet_points Self.KIND sizes cell f) ↔ LeavesGrid Self.KIND sizes cell f };
+    ghost leaves: { LeavesAtBoundary Self.KIND D };
 }

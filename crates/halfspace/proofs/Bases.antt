@@ -3,18 +3,20 @@ use Rattle.std.specs.Prelude.{◌≡◌, ℕ, suc, ◌<◌, ◌≤◌, ℤ, pos,
 use Rattle.std.proofs.Common.{refl, sym, ap, ◌∙◌, subst, arith, length-append}
 use Rattle.std.proofs.lemmas.Int.{ints}
 use Rattle.std.proofs.lemmas.List.Elements.{All-cons, All-nil, All-head, All-tail}
-use Rattle.iso_model.specs.Orders.{has, sorted}
+use Rattle.lists.specs.Orders.{has, sorted}
 use Rattle.iso_model.specs.Turns.{Spans}
 use Rattle.iso_model.specs.Hulls.{IsFacet, members}
 use Rattle.small_turn.proofs.Planes.{AreWide}
 use Rattle.halfspace.specs.Choices.{IsAscending}
 use Rattle.halfspace.proofs.Exchange.{Exchanges, exchange_two_0, exchange_three_0, exchange_three_1, exchange_four_0, exchange_four_1, exchange_four_2}
-use Rattle.halfspace.proofs.Sorting.{Each, Each-exchange, KeepsExchanges, HasNoRepeat, sorted_keeps, sorted_rises, ascends}
-use Rattle.halfspace.proofs.SetNumbers.{has_below}
+use Rattle.halfspace.proofs.SortedExchanges.{Each-exchange, KeepsExchanges, HasNoRepeat, sorted_keeps, sorted_rises, ascends}
+use Rattle.halfspace.proofs.TightNumbers.{has_below}
+use Rattle.lists.specs.Members.{Each}
 
 -- ---- neighbours exchanged, in each dimension
 
-exchanged : (d : ℕ) → d ≤ 4 → (us : List (List ℤ)) (x y : List ℤ) (bs : List (List ℤ)) (z : List ℤ) → length (us ++ x ∷ y ∷ bs) ≡ d → AreWide d (us ++ x ∷ y ∷ bs) → length z ≡ d
+exchanged : (d : ℕ) → d ≤ 4 → (us : List (List ℤ)) (x y : List ℤ) (bs : List (List ℤ)) (z : List ℤ) → length (us ++ x ∷ y ∷ bs) ≡ d
+    → AreWide d (us ++ x ∷ y ∷ bs) → length z ≡ d
     → Exchanges (us ++ x ∷ y ∷ bs) (us ++ y ∷ x ∷ bs) z
 exchanged d f [] x y [] z e w l = exchange_two_0 x y z (w.0 ∙ sym e) (w.1.0 ∙ sym e) (l ∙ sym e)
 exchanged d f [] x y (c ∷ []) z e w l = exchange_three_0 x y c z (w.0 ∙ sym e) (w.1.0 ∙ sym e) (w.1.1.0 ∙ sym e) (l ∙ sym e)
@@ -41,12 +43,14 @@ spans_exchanged d f us x y bs e w s = (
 own_negative : (t : ℤ) → t ≡ neg_ℤ t → t ≡ pos 0
 own_negative t e = omega (arith, ints)
 
-spans_no_repeat : (d : ℕ) → d ≤ 4 → (us : List (List ℤ)) (x : List ℤ) (bs : List (List ℤ)) → length (us ++ x ∷ x ∷ bs) ≡ d → AreWide d (us ++ x ∷ x ∷ bs) → Spans (us ++ x ∷ x ∷ bs) → ⊥
+spans_no_repeat : (d : ℕ) → d ≤ 4 → (us : List (List ℤ)) (x : List ℤ) (bs : List (List ℤ)) → length (us ++ x ∷ x ∷ bs) ≡ d
+    → AreWide d (us ++ x ∷ x ∷ bs) → Spans (us ++ x ∷ x ∷ bs) → ⊥
 spans_no_repeat d f us x bs e w s = s.2 (own_negative _ (exchanged d f us x x bs s.0 e w (s.1 ∙ e)))
 
 -- ---- points by their numbers
 
-pub members_wide : (d : ℕ) (points : List (List ℤ)) → All (λ p. length p ≡ d) points → (basis : List ℕ) → Each (λ i. i < length points) basis → AreWide d (members points basis)
+pub members_wide : (d : ℕ) (points : List (List ℤ)) → All (λ p. length p ≡ d) points → (basis : List ℕ) → Each (λ i. i < length points) basis
+    → AreWide d (members points basis)
 members_wide d points h [] e = tt
 members_wide d points h (i ∷ is) e = (h i [] e.0, members_wide d points h is e.1)
 
@@ -124,7 +128,9 @@ facet_choice d f points wide set facet =
     record {
       choice = sorted facet.basis;
       full = ordered.full;
-      ascending = ascends (IsBasis d points set) (basis_no_repeat d f points wide set) (length points) (sorted facet.basis) ordered (sorted_rises facet.basis) ordered.inside;
+      ascending =
+          ascends (IsBasis d points set) (basis_no_repeat d f points wide set) (length points) (sorted facet.basis) ordered (sorted_rises facet.basis)
+          ordered.inside;
       within = All-from_Each (λ i. IsTrue (has set i)) (sorted facet.basis) ordered.within;
       spans = ordered.spans;
     }
@@ -141,10 +147,13 @@ members_from points (i ∷ is) (p ∷ ps) e h =
     cc
 
 -- a fact of all points is one of the chosen ones
-pub members_all : (P : List ℤ → Type 0) (points : List (List ℤ)) → All P points → (choice : List ℕ) → All (λ i. i < length points) choice → All P (members points choice)
+pub members_all : (P : List ℤ → Type 0) (points : List (List ℤ)) → All P points → (choice : List ℕ) → All (λ i. i < length points) choice
+    → All P (members points choice)
 members_all P points h [] e = All-nil P
 members_all P points h (i ∷ is) e =
-    All-cons P (slice_index_or points i []) (members points is) (h i [] (All-head (λ k. k < length points) i is e)) (members_all P points h is (All-tail (λ k. k < length points) i is e))
+    All-cons P (slice_index_or points i []) (members points is) (h i [] (All-head (λ k. k < length points) i is e))
+    (members_all P points h is (All-tail (λ k. k < length points) i is e))
 
-pub chosen_wide : (d : ℕ) (points : List (List ℤ)) → All (λ p. length p ≡ d) points → (choice : List ℕ) → All (λ i. i < length points) choice → AreWide d (members points choice)
+pub chosen_wide : (d : ℕ) (points : List (List ℤ)) → All (λ p. length p ≡ d) points → (choice : List ℕ) → All (λ i. i < length points) choice
+    → AreWide d (members points choice)
 chosen_wide d points h choice e = members_wide d points h choice (each_from_All (λ i. i < length points) (λ i. i < length points) (λ i k. k) choice e)

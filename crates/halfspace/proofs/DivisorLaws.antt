@@ -5,7 +5,8 @@ use Rattle.std.proofs.Common.{refl, arith, ap, sym, subst, ◌∙◌, get_or, to
 use Rattle.std.proofs.Math.Nat.{eq-zero_of_zero-dvd}
 use Rattle.std.proofs.lemmas.Int.{ints, quot-rem, quot_is, quot_fits, fits_signed_from_abs}
 use Rattle.std.proofs.lemmas.Nat.Gcd.{dvd_refl, dvd_trans, mod-eq-zero_of_dvd}
-use Rattle.std.proofs.lemmas.List.Elements.{All-nil, All-cons, All-head, All-tail, All-push, All-weaker, Contains-get_or, Contains-append_left, Contains-push, All-contains}
+use Rattle.std.proofs.lemmas.List.Elements.{All-nil, All-cons, All-head, All-tail, All-push, All-weaker, Contains-get_or, Contains-append_left}
+use Rattle.std.proofs.lemmas.List.Elements.{Contains-push, All-contains}
 use lib.Signed.{quot_z, rem_z, ◌<ℤ◌}
 use Rattle.polynomials.proofs.IntLaws.{mul-comm, mul-zero_left, add-zero_right}
 use Rattle.halfspace.specs.Divisors.{IsGreatestDivisor, IsReduced}
@@ -25,7 +26,10 @@ greatest_more xs x g r h k = record {
 }
   where
     before : (d : ℕ) → All (λ y. d ∣ nat_abs y) (xs ++ x ∷ []) → All (λ y. d ∣ nat_abs y) xs
-    before d p = λ i e l. All-contains (λ y. d ∣ nat_abs y) (xs ++ x ∷ []) (get_or xs i e) p (Contains-append_left xs (x ∷ []) (get_or xs i e) (Contains-get_or xs i e l))
+    before d p =
+        λ i e l.
+        All-contains (λ y. d ∣ nat_abs y) (xs ++ x ∷ []) (get_or xs i e) p
+        (Contains-append_left xs (x ∷ []) (get_or xs i e) (Contains-get_or xs i e l))
 
 -- ---- quotients by divisors
 
@@ -35,10 +39,12 @@ no_rest (negsuc a) g d = ap (λ (n : ℕ). neg_ℤ (pos n)) (mod-eq-zero_of_dvd 
 
 exact_quotient : (x : ℤ) (g : ℕ) → g ∣ nat_abs x → x ≡ pos g *ℤ quot_z x (pos g)
 exact_quotient x g d =
-    sym (quot-rem x (pos g)) ∙ ap (λ (r : ℤ). quot_z x (pos g) *ℤ pos g +ℤ r) (no_rest x g d) ∙ add-zero_right (quot_z x (pos g) *ℤ pos g) ∙ mul-comm (quot_z x (pos g)) (pos g)
+    sym (quot-rem x (pos g)) ∙ ap (λ (r : ℤ). quot_z x (pos g) *ℤ pos g +ℤ r) (no_rest x g d) ∙ add-zero_right (quot_z x (pos g) *ℤ pos g)
+    ∙ mul-comm (quot_z x (pos g)) (pos g)
 
 -- what the division of an i64 by a cast u64 gives
-pub quotient_is : (x : ℤ) (g : ℕ) → 0 < g → g ≤ 2 ^ 40 → g ∣ nat_abs x → FitsSigned w64 x → x ≡ pos g *ℤ to_z w64 (of_z w64 (quot_z (to_z w64 (of_z w64 x)) (to_z w64 g)))
+pub quotient_is : (x : ℤ) (g : ℕ) → 0 < g → g ≤ 2 ^ 40 → g ∣ nat_abs x → FitsSigned w64 x
+    → x ≡ pos g *ℤ to_z w64 (of_z w64 (quot_z (to_z w64 (of_z w64 x)) (to_z w64 g)))
 quotient_is x g p s d f =
     let above : pos 0 <ℤ pos g = omega (arith, ints) in
     let fits : FitsSigned w64 (pos g) = fits_signed_from_abs w64 (pos g) (omega arith) in
@@ -73,7 +79,8 @@ zero_reduced n b g z h =
 
 -- ---- numbers that were divided one by one
 
-pub quotients_same : (xs ys : List ℤ) (g : ℕ) → length xs ≡ length ys → ((k : ℕ) → k < length xs → get_or xs k (pos 0) ≡ pos g *ℤ get_or ys k (pos 0)) → xs ≡ map (λ y. pos g *ℤ y) ys
+pub quotients_same : (xs ys : List ℤ) (g : ℕ) → length xs ≡ length ys → ((k : ℕ) → k < length xs → get_or xs k (pos 0) ≡ pos g *ℤ get_or ys k (pos 0))
+    → xs ≡ map (λ y. pos g *ℤ y) ys
 quotients_same [] [] g e h = refl
 quotients_same [] (y ∷ ys) g e h = absurd (omega arith)
 quotients_same (x ∷ xs) [] g e h = absurd (omega arith)

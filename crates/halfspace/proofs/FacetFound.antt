@@ -1,31 +1,30 @@
 -- A facet with D points that span a hyperplane is the tight set of the half-space through them, and all points lie on one side of that.
-use Rattle.std.specs.Prelude.{◌≡◌, ◌≢◌, ◌⊎◌, ℕ, ◌+◌, ◌≤◌, ℤ, pos, ◌-ℤ◌, ◌≤ℤ◌, Bool, true, false, List, [], ◌∷◌, map, length, slice_index_or, All, IsTrue}
-use Rattle.std.proofs.Common.{refl, sym, ap, ◌∙◌, subst, arith, inl, inr}
+use Rattle.std.specs.Prelude.{◌≡◌, ◌≢◌, ◌⊎◌, ℕ, ◌+◌, ◌≤◌, ℤ, pos, ◌-ℤ◌, ◌≤ℤ◌, true, List, [], ◌∷◌, map, length, slice_index_or, All, IsTrue}
+use Rattle.std.proofs.Common.{sym, ap, ◌∙◌, subst, arith, inl, inr}
 use Rattle.std.proofs.lemmas.Int.{ints}
 use Rattle.std.proofs.lemmas.List.{length-map}
 use Rattle.std.proofs.lemmas.List.Elements.{All-head, All-tail, filter_agree}
-use Rattle.iso_model.specs.Orders.{numbers, has}
+use Rattle.lists.specs.Orders.{numbers, has}
 use Rattle.iso_model.specs.Turns.{HalfSpace, slack, IsTight, same_int, tight_set, Holds, HasNormal, Spans, rows_to, hyper, turn, minus, dot, cofactors}
 use Rattle.iso_model.specs.Hulls.{IsFacet, members}
-use Rattle.small_turn.proofs.Planes.{TurnLaws, turn_laws, AreWide, AreTight, AreUpright, SamePlane, tight_same, dot-minus, length-minus}
+use Rattle.small_turn.proofs.Planes.{TurnLaws, turn_laws, AreWide, AreTight, AreUpright, SamePlane, tight_same, dot-minus, differences-wide}
 use Rattle.halfspace.specs.Choices.{IsOneSided}
 use Rattle.halfspace.proofs.Bases.{length-members}
 use Rattle.halfspace.proofs.Exchange.{upright_two_0, upright_three_0, upright_three_1, upright_four_0, upright_four_1, upright_four_2}
 use Rattle.halfspace.proofs.SameSide.{factor_not_zero, tight_alike, same_side}
-use Rattle.halfspace.proofs.SetNumbers.{same_int-is, same_int-true, has_test}
-
-pub bools_same : (a b : Bool) → (a ≡ true → b ≡ true) → (b ≡ true → a ≡ true) → a ≡ b
-bools_same true true f g = refl
-bools_same true false f g = sym (f refl)
-bools_same false true f g = g refl
-bools_same false false f g = refl
+use Rattle.halfspace.proofs.TightNumbers.{has_test}
+use Rattle.lists.proofs.Tests.{same_tests}
+use Rattle.iso_model.proofs.PointLaws.{same_int-is, is-same_int}
 
 -- ---- the chosen points are tight
 
-tight_members : (h : HalfSpace) (points : List (List ℤ)) (choice : List ℕ) → All (λ i. IsTrue (has (tight_set h points) i)) choice → AreTight h (members points choice)
+tight_members : (h : HalfSpace) (points : List (List ℤ)) (choice : List ℕ) → All (λ i. IsTrue (has (tight_set h points) i)) choice
+    → AreTight h (members points choice)
 tight_members h points [] w = tt
 tight_members h points (i ∷ is) w = (
-  same_int-is _ _ (has_test (λ j. same_int (slack h (slice_index_or points j [])) (pos 0)) (length points) i (All-head (λ k. IsTrue (has (tight_set h points) k)) i is w)),
+  same_int-is _ _
+      (has_test (λ j. same_int (slack h (slice_index_or points j [])) (pos 0)) (length points) i
+      (All-head (λ k. IsTrue (has (tight_set h points) k)) i is w)),
   tight_members h points is (All-tail (λ k. IsTrue (has (tight_set h points) k)) i is w),
 )
 
@@ -40,7 +39,7 @@ found_by : (d : ℕ) → TurnLaws d → (points : List (List ℤ)) (set : List �
     → length ps + 1 ≡ d → length p ≡ d → AreWide d ps → IsTight h p → AreTight h ps → Spans (p ∷ ps)
     → IsFoundBy (hyper (p ∷ ps)) points set
 found_by d laws points set h p ps wide normal holds tight e l w t ts spans = record {
-  same = tight ∙ filter_agree _ _ (λ i. bools_same _ _ (forth (slice_index_or points i [])) (back (slice_index_or points i []))) (numbers (length points));
+  same = tight ∙ filter_agree _ _ (λ i. same_tests _ _ (forth (slice_index_or points i [])) (back (slice_index_or points i []))) (numbers (length points));
   sides = both (same_side d f g h (hyper (p ∷ ps)) plane f_not g_not);
 }
   where
@@ -63,21 +62,24 @@ found_by d laws points set h p ps wide normal holds tight e l w t ts spans = rec
     g_not = factor_not_zero d f g h (hyper (p ∷ ps)) plane f_not normal
 
     forth : (y : List ℤ) → same_int (slack h y) (pos 0) ≡ true → same_int (slack (hyper (p ∷ ps)) y) (pos 0) ≡ true
-    forth y q = same_int-true _ _ ((tight_alike d f g h (hyper (p ∷ ps)) plane f_not g_not y).0 (same_int-is _ _ q))
+    forth y q = is-same_int _ _ ((tight_alike d f g h (hyper (p ∷ ps)) plane f_not g_not y).0 (same_int-is _ _ q))
 
     back : (y : List ℤ) → same_int (slack (hyper (p ∷ ps)) y) (pos 0) ≡ true → same_int (slack h y) (pos 0) ≡ true
-    back y q = same_int-true _ _ ((tight_alike d f g h (hyper (p ∷ ps)) plane f_not g_not y).1 (same_int-is _ _ q))
+    back y q = is-same_int _ _ ((tight_alike d f g h (hyper (p ∷ ps)) plane f_not g_not y).1 (same_int-is _ _ q))
 
-    both : (((y : List ℤ) → Holds h y → pos 0 ≤ℤ slack (hyper (p ∷ ps)) y) ⊎ ((y : List ℤ) → Holds h y → slack (hyper (p ∷ ps)) y ≤ℤ pos 0)) → IsOneSided (hyper (p ∷ ps)) points
+    both : (((y : List ℤ) → Holds h y → pos 0 ≤ℤ slack (hyper (p ∷ ps)) y) ⊎ ((y : List ℤ) → Holds h y → slack (hyper (p ∷ ps)) y ≤ℤ pos 0))
+        → IsOneSided (hyper (p ∷ ps)) points
     both (inl k) = inl (λ i z q. k _ (holds i z q))
     both (inr k) = inr (λ i z q. k _ (holds i z q))
 
-pub found : (d : ℕ) → 2 ≤ d → d ≤ 4 → (points : List (List ℤ)) (set : List ℕ) → IsFacet d points set → (choice : List ℕ) → length choice ≡ d → AreWide d (members points choice)
+pub found : (d : ℕ) → 2 ≤ d → d ≤ 4 → (points : List (List ℤ)) (set : List ℕ) → IsFacet d points set → (choice : List ℕ) → length choice ≡ d
+    → AreWide d (members points choice)
     → All (λ i. IsTrue (has set i)) choice → Spans (members points choice) → IsFoundBy (hyper (members points choice)) points set
 found d least greatest points set facet [] e w h s = absurd (omega arith)
 found d least greatest points set facet (c ∷ cs) e w h s =
     let tights = tight_members facet.half points (c ∷ cs) (subst (λ (t : List ℕ). All (λ i. IsTrue (has t i)) (c ∷ cs)) facet.tight h) in
-    found_by d (turn_laws d least greatest) points set facet.half (slice_index_or points c []) (members points cs) facet.wide facet.normal facet.holds facet.tight
+    found_by d (turn_laws d least greatest) points set facet.half (slice_index_or points c []) (members points cs) facet.wide facet.normal facet.holds
+    facet.tight
     (ap (λ (n : ℕ). n + 1) (length-members points cs) ∙ omega arith) w.0 w.1 tights.0 tights.1 s
 
 -- ---- the half-space through D points is tight at each of them
@@ -95,7 +97,8 @@ own_upright d p q (u ∷ v ∷ t ∷ []) e w = (
 )
 own_upright d p q (u ∷ v ∷ t ∷ s ∷ rows) e w = absurd (omega arith)
 
-upright_tight : (n p : List ℤ) (ps : List (List ℤ)) (d : ℕ) → length p ≡ d → AreWide d ps → AreUpright n (map (λ q. minus q p) ps) → AreTight (record { normal = n; bound = dot n p }) ps
+upright_tight : (n p : List ℤ) (ps : List (List ℤ)) (d : ℕ) → length p ≡ d → AreWide d ps → AreUpright n (map (λ q. minus q p) ps)
+    → AreTight (record { normal = n; bound = dot n p }) ps
 upright_tight n p [] d l w h = tt
 upright_tight n p (q ∷ ps) d l w h =
     (turned (dot n p) (dot n q) (sym (dot-minus n q p (w.0 ∙ sym l)) ∙ h.0), upright_tight n p ps d l w.1 h.1)
@@ -103,17 +106,13 @@ upright_tight n p (q ∷ ps) d l w h =
     turned : (a b : ℤ) → b -ℤ a ≡ pos 0 → a -ℤ b ≡ pos 0
     turned a b e = omega (arith, ints)
 
-differences_wide : (d : ℕ) (p : List ℤ) (ps : List (List ℤ)) → length p ≡ d → AreWide d ps → AreWide d (map (λ q. minus q p) ps)
-differences_wide d p [] l w = tt
-differences_wide d p (q ∷ ps) l w = (length-minus q p (w.0 ∙ sym l) ∙ w.0, differences_wide d p ps l w.1)
-
 pub own_tight : (d : ℕ) → 2 ≤ d → d ≤ 4 → (ps : List (List ℤ)) → length ps ≡ d → AreWide d ps → AreTight (hyper ps) ps
 own_tight d least greatest [] e w = tt
 own_tight d least greatest (p ∷ ps) e w =
     let rows = map (λ q. minus q p) ps in (
       same_zero (dot (cofactors rows) p),
       upright_tight (cofactors rows) p ps d w.0 w.1
-          (own_upright d least greatest rows (ap (λ (n : ℕ). n + 1) (length-map ps (λ q. minus q p)) ∙ omega arith) (differences_wide d p ps w.0 w.1)),
+          (own_upright d least greatest rows (ap (λ (n : ℕ). n + 1) (length-map ps (λ q. minus q p)) ∙ omega arith) (differences-wide d p ps w.0 w.1)),
     )
   where
     same_zero : (a : ℤ) → a -ℤ a ≡ pos 0

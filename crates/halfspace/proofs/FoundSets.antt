@@ -1,5 +1,6 @@
 -- Lists of the numbers of facets' sets: their bits, how often each stands there, and when they are the numbers of all facets.
-use Rattle.std.specs.Prelude.{◌≡◌, ◌≢◌, ◌⊎◌, ℕ, zero, suc, ◌+◌, ◌-◌, ◌*◌, ◌^◌, ◌<◌, ◌≤◌, Bool, true, false, cond, nat_eq, nat_lt, List, [], ◌∷◌, ◌++◌, map, filter, length, slice_index_or, ℤ, All, Contains, IsPermutation}
+use Rattle.std.specs.Prelude.{◌≡◌, ◌≢◌, ◌⊎◌, ℕ, zero, suc, ◌+◌, ◌-◌, ◌*◌, ◌^◌, ◌<◌, ◌≤◌, Bool, true, false, cond, nat_eq, nat_lt, List, [], ◌∷◌, ◌++◌}
+use Rattle.std.specs.Prelude.{map, filter, length, slice_index_or, ℤ, All, Contains, IsPermutation}
 use Rattle.std.specs.Int.{bit_at}
 use Rattle.std.proofs.Common.{refl, sym, ap, ◌∙◌, subst, arith, inl, inr}
 use Rattle.std.proofs.lemmas.Bool.Decides.{nat_tests}
@@ -7,10 +8,11 @@ use Rattle.std.proofs.lemmas.List.Elements.{All-nil, All-cons, All-head, All-tai
 use Rattle.std.proofs.lemmas.List.Sorted.{All-permutation, Contains-permutation, sum_by-IsPermutation}
 use Rattle.std.proofs.lemmas.List.Sums.{sum_by-cons, sum_by_push}
 use Rattle.std.proofs.lemmas.Nat.Bits.{bit_at_cat_low, bit_at_cat_high, bit_at_above}
-use Rattle.iso_model.specs.Orders.{numbers}
-use Rattle.iso_model.specs.Hulls.{IsFacet, set_number}
+use Rattle.lists.specs.Orders.{numbers}
+use Rattle.iso_model.specs.Hulls.{IsFacet}
 use Rattle.halfspace.specs.Choices.{AreFacetNumbers, IsFacetNumber, AreSomeFacets, occurrences}
-use Rattle.halfspace.proofs.SetNumbers.{part, set_number-more, set_number-below, filter_numbers_more, eq_or_below}
+use Rattle.halfspace.proofs.TightNumbers.{part, set_number-more, set_number-below, filter_numbers_more, eq_or_below}
+use Rattle.lists.specs.Bits.{set_number}
 
 -- ---- the bits of a set's number
 
@@ -36,7 +38,8 @@ bit_of_number p (suc n) i h =
     ap (λ (m : ℕ). bit_at (set_number (filter p (numbers m))) i) e ∙ ap (λ (m : ℕ). bit_at m i) (number_cat p n)
     ∙ by_place (λ k. bit_of_number p n i k) (eq_or_below i n (omega arith))
   where
-    by_place : (i < n → bit_at (set_number (filter p (numbers n))) i ≡ digit (p i)) → (i ≡ n) ⊎ (i < n) → bit_at (digit (p n) * 2 ^ n + set_number (filter p (numbers n))) i ≡ digit (p i)
+    by_place : (i < n → bit_at (set_number (filter p (numbers n))) i ≡ digit (p i)) → (i ≡ n) ⊎ (i < n)
+        → bit_at (digit (p n) * 2 ^ n + set_number (filter p (numbers n))) i ≡ digit (p i)
     by_place behind (inl s) =
         let z : i - n ≡ 0 = omega arith in
         bit_at_cat_high (digit (p n)) n (set_number (filter p (numbers n))) i (set_number-below p n) (omega arith)
@@ -57,7 +60,9 @@ set_bit p n i h = by_place (nat_lt i n) refl
 
     by_place : (b : Bool) → nat_lt i n ≡ b → IsSetBit p n i
     by_place true e = let k : i < n = grind (arith, nat_tests) in record { below = k; passes = by_digit (p i) (sym (bit_of_number p n i k) ∙ h) }
-    by_place false e = let k : n ≤ i = grind (arith, nat_tests) in let z = bit_at_above (set_number (filter p (numbers n))) n i (set_number-below p n) k in absurd (omega arith)
+    by_place false e =
+        let k : n ≤ i = grind (arith, nat_tests) in
+        let z = bit_at_above (set_number (filter p (numbers n))) n i (set_number-below p n) k in absurd (omega arith)
 
 -- ---- sets with one number are one set
 
@@ -66,7 +71,8 @@ same_set p q zero e = refl
 same_set p q (suc n) e =
     let s : suc n ≡ n + 1 = omega arith in
     let f = ap (λ (m : ℕ). set_number (filter p (numbers m))) (sym s) ∙ e ∙ ap (λ (m : ℕ). set_number (filter q (numbers m))) s in
-    let both = by_digits (p n) (q n) (set_number (filter p (numbers n))) (set_number (filter q (numbers n))) (2 ^ n) (set_number-below p n) (set_number-below q n)
+    let both = by_digits (p n) (q n) (set_number (filter p (numbers n))) (set_number (filter q (numbers n))) (2 ^ n) (set_number-below p n)
+    (set_number-below q n)
     (sym (set_number-more p n) ∙ f ∙ set_number-more q n) in
     ap (λ (m : ℕ). filter p (numbers m)) s ∙ filter_numbers_more p n
     ∙ ap (λ (xs : List ℕ). xs ++ cond (p n) (n ∷ []) []) (same_set p q n both.1) ∙ ap (λ (b : Bool). filter q (numbers n) ++ cond b (n ∷ []) []) both.0
@@ -79,7 +85,8 @@ same_set p q (suc n) e =
     by_digits false false x y w h k g = (refl, omega arith)
 
 -- the number of a facet's set fixes the set
-pub same_facet : (d : ℕ) (points : List (List ℤ)) (set other : List ℕ) → IsFacet d points set → IsFacet d points other → set_number set ≡ set_number other → set ≡ other
+pub same_facet : (d : ℕ) (points : List (List ℤ)) (set other : List ℕ) → IsFacet d points set → IsFacet d points other
+    → set_number set ≡ set_number other → set ≡ other
 same_facet d points set other f g e =
     f.tight ∙ same_set _ _ (length points) (ap set_number (sym f.tight) ∙ e ∙ ap set_number g.tight) ∙ sym g.tight
 
@@ -155,7 +162,8 @@ unfolding sets_of
 sets_are_facets d points [] e = All-nil (IsFacet d points)
 sets_are_facets d points (x ∷ xs) e = All-cons (IsFacet d points) e.0.0 (sets_of d points xs e.1) e.0.1 (sets_are_facets d points xs e.1)
 
-set_is_there : (d : ℕ) (points : List (List ℤ)) (set : List ℕ) → IsFacet d points set → (found : List ℕ) (e : EachFacet d points found) (k : ℕ) → k < length found
+set_is_there : (d : ℕ) (points : List (List ℤ)) (set : List ℕ) → IsFacet d points set → (found : List ℕ) (e : EachFacet d points found) (k : ℕ)
+    → k < length found
     → slice_index_or found k (set_number set) ≡ set_number set → Contains (sets_of d points found e) set
 unfolding sets_of
 set_is_there d points set f [] e k h q = absurd (omega arith)

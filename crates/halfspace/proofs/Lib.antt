@@ -5,7 +5,7 @@ pub mod Exchange
 pub mod FacetFound
 pub mod FoundSets
 pub mod SameSide
-pub mod SetNumbers
+pub mod TightNumbers
 pub mod SlackLaws
-pub mod Sorting
-pub mod Steps
+pub mod SortedExchanges
+pub mod FacetSteps

@@ -1,4 +1,5 @@
--- The facet's half-space and the half-space through D spanning points of its tight set are tight at the same points, and one holds what the other or its reverse holds.
+-- The facet's half-space and the half-space through D spanning points of its tight set are tight at the same points, and one holds what the other or
+-- its reverse holds.
 use Rattle.std.specs.Prelude.{◌≡◌, ◌≢◌, ◌⊎◌, ◌↔◌, ℕ, zero, suc, ◌<◌, ℤ, pos, negsuc, ◌*ℤ◌, ◌≤ℤ◌, List, [], ◌∷◌, length, get_or}
 use Rattle.std.proofs.Common.{refl, sym, ap, ◌∙◌, subst, arith, inl, inr}
 use Rattle.std.proofs.lemmas.Int.{ints}

@@ -1,10 +1,10 @@
 -- Bounds of slacks.
-use Rattle.std.specs.Prelude.{◌≡◌, ◌≢◌, ℕ, ◌*◌, ◌^◌, ◌<◌, ◌≤◌, ℤ, pos, negsuc, ◌-ℤ◌, zero, suc, List, [], ◌∷◌, length, slice_index_or}
-use Rattle.std.proofs.Common.{refl, arith, subst, sym, to_z, of_z, w64, FitsSigned, lit<, ap, ◌∙◌}
+use Rattle.std.specs.Prelude.{◌≡◌, ◌≢◌, ◌*◌, ◌^◌, ◌<◌, ◌≤◌, ℤ, pos, negsuc, ◌-ℤ◌, List, length}
+use Rattle.std.proofs.Common.{arith, subst, sym, to_z, of_z, w64, FitsSigned, lit<, ap, ◌∙◌}
 use lib.Signed.{mag}
 use Rattle.polynomials.specs.Small.{IsSmall, AreSmall}
 use Rattle.polynomials.proofs.SmallLaws.{small-weaken, small-sub, small-fits, small-back, difference_back}
-use Rattle.small_turn.proofs.RowLaws.{small-dot}
+use Rattle.small_turn.proofs.MatrixRows.{small-dot}
 use Rattle.iso_model.specs.Turns.{dot}
 
 product_small : (n p : List ℤ) (r : ℤ) → length p ≤ 4 → AreSmall (2 ^ 24) n → AreSmall 64 p → r ≡ dot n p → IsSmall (2 ^ 32) r
@@ -28,7 +28,8 @@ pub record SlackFacts (b r s : ℤ) : Type 0 where
   pub fits : FitsSigned w64 (to_z w64 (of_z w64 b) -ℤ to_z w64 (of_z w64 r))
   pub value : to_z w64 (of_z w64 (to_z w64 (of_z w64 b) -ℤ to_z w64 (of_z w64 r))) ≡ s
 
-pub slack_facts : (n p : List ℤ) (b r : ℤ) → length p ≤ 4 → AreSmall (2 ^ 24) n → AreSmall 64 p → IsSmall (2 ^ 40) b → r ≡ dot n p → SlackFacts b r (b -ℤ dot n p)
+pub slack_facts : (n p : List ℤ) (b r : ℤ) → length p ≤ 4 → AreSmall (2 ^ 24) n → AreSmall 64 p → IsSmall (2 ^ 40) b → r ≡ dot n p
+    → SlackFacts b r (b -ℤ dot n p)
 slack_facts n p b r few h k bound e =
     let small = product_small n p r few h k e in
     let back_b = small-back (2 ^ 40) b (lit< tt) bound in
@@ -39,9 +40,3 @@ slack_facts n p b r few h k bound e =
           (small-fits (2 ^ 41) (b -ℤ r) (small-weaken _ (2 ^ 41) (b -ℤ r) (small-sub (2 ^ 40) (2 ^ 32) b r bound small) (omega arith)) (lit< tt)));
       value = difference_back (2 ^ 40) (2 ^ 32) b r (lit< tt) bound small ∙ ap (λ (z : ℤ). b -ℤ z) e;
     }
-
--- within a list the default does not matter
-pub default_same : {X : Type 0} (xs : List X) (k : ℕ) (d e : X) → k < length xs → slice_index_or xs k d ≡ slice_index_or xs k e
-default_same [] k d e h = absurd (omega arith)
-default_same (x ∷ xs) zero d e h = refl
-default_same (x ∷ xs) (suc k) d e h = default_same xs k d e (omega arith)

@@ -1,9 +1,11 @@
 -- The choices of D points among which the facets are found.
-use Rattle.std.specs.Prelude.{◌≡◌, ℕ, ◌+◌, ◌<◌, ◌≤◌, ◌⊎◌, ◌≤ℤ◌, ℤ, pos, List, [], ◌∷◌, ◌++◌, map, length, sum_by, nat_eq, All, Any, Contains, IsTrue, if◌then◌else◌}
+use Rattle.std.specs.Prelude.{◌≡◌, ℕ, ◌+◌, ◌<◌, ◌≤◌, ◌⊎◌, ◌≤ℤ◌, ◌<ℤ◌, ℤ, pos, List, [], ◌∷◌, ◌++◌, map, length, sum_by, nat_eq, All, Any, Contains, IsTrue}
+use Rattle.std.specs.Prelude.{if◌then◌else◌}
 use Rattle.std.specs.Int.{bit_at}
-use Rattle.iso_model.specs.Orders.{has}
+use Rattle.lists.specs.Orders.{has}
 use Rattle.iso_model.specs.Turns.{HalfSpace, slack, Holds, Spans}
-use Rattle.iso_model.specs.Hulls.{IsFacet, AreFacets, set_number, members}
+use Rattle.iso_model.specs.Hulls.{IsFacet, AreFacets, members}
+use Rattle.lists.specs.Bits.{set_number}
 
 -- the numbers of the sets of all facets, each once, in ascending order
 pub record AreFacetNumbers (d : ℕ) (points : List (List ℤ)) (numbers : List ℕ) : Type 0 where
@@ -14,6 +16,26 @@ pub record AreFacetNumbers (d : ℕ) (points : List (List ℤ)) (numbers : List 
 -- all points are held, or all lie on the other side or at the boundary
 abbrev pub IsOneSided : HalfSpace → List (List ℤ) → Type 0
 IsOneSided h points = All (Holds h) points ⊎ All (λ x. slack h x ≤ℤ pos 0) points
+
+-- some point lies inside the half-space of this normal and bound, off its boundary
+abbrev pub HasInside : List ℤ → ℤ → List (List ℤ) → Type 0
+HasInside normal bound points = Any (λ x. pos 0 <ℤ slack (record { normal = normal; bound = bound }) x) points
+
+-- and none does
+abbrev pub HasNoInside : List ℤ → ℤ → List (List ℤ) → Type 0
+HasNoInside normal bound points = All (λ x. slack (record { normal = normal; bound = bound }) x ≤ℤ pos 0) points
+
+-- some point lies outside it
+abbrev pub HasOutside : List ℤ → ℤ → List (List ℤ) → Type 0
+HasOutside normal bound points = Any (λ x. slack (record { normal = normal; bound = bound }) x <ℤ pos 0) points
+
+-- and none does
+abbrev pub HoldsAll : List ℤ → ℤ → List (List ℤ) → Type 0
+HoldsAll normal bound points = All (Holds (record { normal = normal; bound = bound })) points
+
+-- each number is below n
+abbrev pub AreBelow : ℕ → List ℕ → Type 0
+AreBelow n numbers = All (λ i. i < n) numbers
 
 -- the number of the set of some facet
 abbrev pub IsFacetNumber : ℕ → List (List ℤ) → ℕ → Type 0

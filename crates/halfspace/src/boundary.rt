@@ -3,7 +3,7 @@
 ghost use Rattle.std.specs.Prelude.{◌≡◌, ◌^◌, ◌≤◌, ◌-ℤ◌, All, length};
 ghost use Rattle.polynomials.specs.Small.{IsSmall, AreSmall};
 ghost use Rattle.iso_model.specs.Turns.{slack, tight_set};
-ghost use Rattle.iso_model.specs.Hulls.{set_number};
+ghost use Rattle.lists.specs.Bits.{set_number};
 
 use small_turn::{HalfSpace, dot, wide};
 

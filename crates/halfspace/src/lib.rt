@@ -5,10 +5,10 @@
 //!
 //! For proofs above this crate: `specs/Choices` has `AreFacetNumbers`, which `plain_facets` ensures of its answer. Of the files in
 //! `proofs`, `FacetFound` says that a facet with D points that span a hyperplane is the tight set of the half-space
-//! through them (`found`), and that this half-space is tight at each of them (`own_tight`); `Steps` that such a tight
+//! through them (`found`), and that this half-space is tight at each of them (`own_tight`); `FacetSteps` that such a tight
 //! set is a facet (`facet_here`); `Bases` that each facet has an ascending choice of D points that span
 //! (`facet_choice`); `FoundSets` that the number of a facet's set fixes the set (`same_facet`), how its bits are those
-//! of the members, and when a list has the numbers of all facets (`all_facets`); `SetNumbers` has sets that are given
+//! of the members, and when a list has the numbers of all facets (`all_facets`); `TightNumbers` has sets that are given
 //! by a test.
 #![tactic(auto)]
 

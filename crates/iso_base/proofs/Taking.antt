@@ -4,7 +4,8 @@ use Rattle.std.proofs.lemmas.List.{take_at, length-take-le}
 use Rattle.std.proofs.Math.ListN.{drop_of_length-le}
 
 -- where the first `count` bytes of what was left stand at the front of a buffer, they were taken off it, and nothing is left where a buffer with room got none
-pub consumed : (old new front buf : List ℕ) (count step : ℕ) → front ≡ take count old → new ≡ drop count old → count ≡ min (min (length old) step) (length buf) → 1 ≤ step
+pub consumed : (old new front buf : List ℕ) (count step : ℕ) → front ≡ take count old → new ≡ drop count old
+    → count ≡ min (min (length old) step) (length buf) → 1 ≤ step
     → (old ≡ take count (front ++ drop count buf) ++ new) × (count ≡ 0 → 0 < length (front ++ drop count buf) → new ≡ [])
 consumed old new front buf count step is_front is_new is_count some =
     let long : count ≤ length old = omega arith in

@@ -22,24 +22,31 @@ of_refusal P t (Err (Statuses.TableRefused label r)) memory refused is = refused
 of_refusal P t (Err _) memory refused is = absurd is
 
 -- a table that is not accepted is refused where the file holds it
-pub table_refused : {T : Type 0} (files : Option Files) (name : List ℕ) (t : Table) (result : Result T Status) → FileHas files name (λ bytes. HoldTable bytes t) → IfErr result (IsRefusalOf t)
+pub table_refused : {T : Type 0} (files : Option Files) (name : List ℕ) (t : Table) (result : Result T Status)
+    → FileHas files name (λ bytes. HoldTable bytes t) → IfErr result (IsRefusalOf t)
     → IfErr result (λ status. IsDecided status → FileHas files name (λ bytes. IsRefusedTable bytes status))
 table_refused files name t result held is =
     of_refusal (λ status. IsDecided status → FileHas files name (λ bytes. IsRefusedTable bytes status)) t result (λ decided. absurd decided)
-    (λ label r refused decided. file_map files name (λ bytes. HoldTable bytes t) (λ bytes. IsRefusedTable bytes (Statuses.TableRefused label r)) (λ bytes hold. not_accepted t label r hold refused) held) is
+    (λ label r refused decided.
+         file_map files name (λ bytes. HoldTable bytes t) (λ bytes. IsRefusedTable bytes (Statuses.TableRefused label r))
+             (λ bytes hold. not_accepted t label r hold refused) held)
+        is
 
 pub table_kinds : {T : Type 0} (t : Table) (result : Result T Status) → IfErr result (IsRefusalOf t) → IfErr result IsOfTable
 table_kinds t result is = of_refusal IsOfTable t result tt (λ label r refused. tt) is
 
-pub table_blames : {T : Type 0} (t : Table) (result : Result T Status) (before now : ℕ) → IfErr result (IsRefusalOf t) → IfErr result (λ status. BlamesShelf status before now)
+pub table_blames : {T : Type 0} (t : Table) (result : Result T Status) (before now : ℕ) → IfErr result (IsRefusalOf t)
+    → IfErr result (λ status. BlamesShelf status before now)
 table_blames t result before now is = of_refusal (λ status. BlamesShelf status before now) t result tt (λ label r refused. tt) is
 
-pub table_missing : {T : Type 0} (t : Table) (result : Result T Status) (P : Type 0) → IfErr result (IsRefusalOf t) → IfErr result (λ status. IsShelfFault status → P)
+pub table_missing : {T : Type 0} (t : Table) (result : Result T Status) (P : Type 0) → IfErr result (IsRefusalOf t)
+    → IfErr result (λ status. IsShelfFault status → P)
 table_missing t result P is = of_refusal (λ status. IsShelfFault status → P) t result (λ fault. absurd fault) (λ label r refused fault. absurd fault) is
 
 -- a table that is accepted, where the file holds it
 pub table_held : (files : Option Files) (name : List ℕ) (t : Table) (result : Result CheckedTable Status) → FileHas files name (λ bytes. HoldTable bytes t)
-    → IfOk result (λ checked. checked_in checked ≡ t) → IfOk result (λ checked. IsTable (checked_in checked)) → IfOk result (λ checked. IsAccepted (checked_in checked))
+    → IfOk result (λ checked. checked_in checked ≡ t) → IfOk result (λ checked. IsTable (checked_in checked))
+        → IfOk result (λ checked. IsAccepted (checked_in checked))
     → IfOk result (λ checked. HoldsAccepted files name (checked_in checked))
 table_held files name t (Err e) held same whole accepted = tt
 table_held files name t (Ok checked) held same whole accepted = record {

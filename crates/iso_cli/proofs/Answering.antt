@@ -8,13 +8,14 @@ use Rattle.iso_base.specs.Faults.{CountsFaults, Rose}
 use Rattle.iso_base.specs.declared.outside.Failed.{Failed}
 use Rattle.iso_base.specs.Files.{Files, bytes_of}
 use Rattle.iso_base.specs.Fronts.{AppendsFront}
-use Rattle.iso_model.specs.Commands.{AreRight, Command, IsWrongWord, Say, generate_command, check_command, extract_command, demo_command}
+use Rattle.iso_formats.specs.Commands.{AreRight, Command, IsWrongWord, Say, generate_command, check_command, extract_command, demo_command}
 use Rattle.iso_words.specs.Built.{is_built}
 use Rattle.iso_words.proofs.WrongLemmas.{Say-one}
 use Rattle.iso_cli.specs.declared.status.Status.{Status}
 use Rattle.iso_cli.specs.declared.status.Status.TheVariants as Statuses
 use Rattle.iso_cli.specs.Refusals.{FileHas}
-use Rattle.iso_cli.specs.Runs.{AreRefused, HoldNeeded, IsAnswerable, IsTrueAnswer, IsTrueOf, LacksFile, LeavesShelf, PutsLine, SayBuilt, ServesWell, files_named}
+use Rattle.iso_cli.specs.Runs.{AreRefused, HoldNeeded, IsAnswerable, IsTrueAnswer, IsTrueOf, LacksFile, LeavesShelf, PutsLine, SayBuilt, ServesWell}
+use Rattle.iso_cli.specs.Runs.{files_named}
 use Rattle.iso_cli.specs.Outputs.{BlamesOutput}
 use Rattle.iso_cli.specs.Statuses.{IsDecided, IsDoneOrMemory, IsUsage}
 use Rattle.iso_cli.specs.StatusLines.{status_line}
@@ -29,13 +30,16 @@ file_stays now files name P same has = subst (λ (fs : Option Files). FileHas fs
 -- ---- the words
 
 -- what is true for the command that the words say is true for the words
-pub said_answer : (files : Option Files) (words : List (List ℕ)) (status : Status) (command : Command) → (IsUsage status → ⊥) → IsTrue (is_built command) → Say words command
+pub said_answer : (files : Option Files) (words : List (List ℕ)) (status : Status) (command : Command) → (IsUsage status → ⊥)
+    → IsTrue (is_built command) → Say words command
     → IsTrueOf files status command → IsTrueAnswer files words status
 said_answer files words (Statuses.Usage place) command known built said true_of = absurd (known tt)
 said_answer files words _ command known built said true_of = (command, built, said, true_of)
 
 -- what a command leaves of the shelf, the words leave
-pub said_shelf : {S : Type 0} (faults : S → ℕ) (files : S → Option Files) (sound : S → Type 0) (words : List (List ℕ)) (status : Status) (old new : S) (command : Command)
+pub said_shelf :
+    {S : Type 0} (faults : S → ℕ) (files : S → Option Files) (sound : S → Type 0) (words : List (List ℕ)) (status : Status) (old new : S)
+        (command : Command)
     → IsTrue (is_built command) → Say words command → LeavesShelf faults files sound (LacksFile (files old) command) status old new
     → LeavesShelf faults files sound (SayBuilt words (LacksFile (files old))) status old new
 said_shelf faults files sound words status old new command built said leaves = record {
@@ -49,7 +53,8 @@ said_shelf faults files sound words status old new command built said leaves = r
 
 -- a line that was put
 pub puts_line : {E : Type 0} (faults : E → ℕ) (bytes : E → Option (List ℕ)) (status : Status) (old new : E) (text : List ℕ) (result : Result (Unit {0}) Failed)
-    → CountsFaults (faults old) (faults new) result → OnOk result (Appends (bytes old) (bytes new) text) → OnErr result (AppendsFront (bytes old) (bytes new) text)
+    → CountsFaults (faults old) (faults new) result → OnOk result (Appends (bytes old) (bytes new) text)
+        → OnErr result (AppendsFront (bytes old) (bytes new) text)
     → text ≡ status_line status → (status ≡ Statuses.Done → new ≡ old) → PutsLine faults bytes status old new
 puts_line faults bytes status old new text (Ok u) counts all front is silent =
     let put : Appends (bytes old) (bytes new) (status_line status) = subst (λ (xs : List ℕ). Appends (bytes old) (bytes new) xs) is all in
@@ -57,7 +62,12 @@ puts_line faults bytes status old new text (Ok u) counts all front is silent =
     record {
       later = counts.later;
       whole = λ never. put;
-      front = (length (status_line status), most, subst (λ (xs : List ℕ). Appends (bytes old) (bytes new) xs) (sym (take_all (length (status_line status)) (status_line status) most)) put);
+      front =
+          (
+            length (status_line status),
+            most,
+            subst (λ (xs : List ℕ). Appends (bytes old) (bytes new) xs) (sym (take_all (length (status_line status)) (status_line status) most)) put
+          );
       silent = silent;
     }
 puts_line faults bytes status old new text (Err e) counts all front is silent = record {
@@ -80,7 +90,8 @@ not_wrong words place right wrong =
       | inr late ↦ late.1 right
     ]
 
-all_there : (files : Option Files) (command : Command) → AllByRecursion (λ name. IsSome (bytes_of files name)) (files_named command) → LacksFile files command → ⊥
+all_there : (files : Option Files) (command : Command) → AllByRecursion (λ name. IsSome (bytes_of files name)) (files_named command)
+    → LacksFile files command → ⊥
 all_there files (generate_command kind d) there lacks = lacks
 all_there files (check_command table) there lacks = some_none files table there.0 lacks
 all_there files (extract_command table grid iso) there (inl lacks) = some_none files table there.0 lacks
@@ -89,36 +100,50 @@ all_there files (demo_command kind d size seed) there lacks = lacks
 
 -- a shelf that serves well is not blamed
 not_blamed : {S : Type 0} (faults : S → ℕ) (files : S → Option Files) (sound : S → Type 0) (words : List (List ℕ)) (count : ℕ) (old new : S)
-    → LeavesShelf faults files sound (SayBuilt words (LacksFile (files old))) (Statuses.ShelfFault count) old new → ServesWell faults files sound words old new → ⊥
+    → LeavesShelf faults files sound (SayBuilt words (LacksFile (files old))) (Statuses.ShelfFault count) old new
+        → ServesWell faults files sound words old new → ⊥
 not_blamed faults files sound words count old new leaves (inl never) = never leaves.blamed.0
 not_blamed faults files sound words count old new leaves (inr serves) =
     let lacks = leaves.missing serves.0 tt in
     all_there (files old) lacks.0 (serves.1 lacks.0 lacks.2) lacks.3
 
 -- where the outside serves well and no refusal holds, the output is whole, or memory was refused
-pub complete : {S : Type 0} (faults : S → ℕ) (files : S → Option Files) (sound : S → Type 0) (words : List (List ℕ)) (status : Status) (old new : S) (before now : ℕ)
-    → IsTrueAnswer (files old) words status → LeavesShelf faults files sound (SayBuilt words (LacksFile (files old))) status old new → BlamesOutput status before now
+pub complete :
+    {S : Type 0} (faults : S → ℕ) (files : S → Option Files) (sound : S → Type 0) (words : List (List ℕ)) (status : Status) (old new : S)
+        (before now : ℕ)
+    → IsTrueAnswer (files old) words status → LeavesShelf faults files sound (SayBuilt words (LacksFile (files old))) status old new
+        → BlamesOutput status before now
     → ¬ Rose before now → ServesWell faults files sound words old new → IsAnswerable (files old) words → IsDoneOrMemory status
 complete faults files sound words Statuses.Done old new before now true_of leaves blames never serves may = tt
 complete faults files sound words Statuses.Memory old new before now true_of leaves blames never serves may = tt
 complete faults files sound words (Statuses.WriteFault count) old new before now true_of leaves blames never serves may = absurd (never blames.0)
-complete faults files sound words (Statuses.ShelfFault count) old new before now true_of leaves blames never serves may = absurd (not_blamed faults files sound words count old new leaves serves)
-complete faults files sound words (Statuses.Usage place) old new before now true_of leaves blames never serves may = absurd (not_wrong words place may.0 true_of)
-complete faults files sound words (Statuses.TableForm form) old new before now true_of leaves blames never serves may = absurd (may.1 (Statuses.TableForm form) tt true_of)
-complete faults files sound words (Statuses.TableRefused label r) old new before now true_of leaves blames never serves may = absurd (may.1 (Statuses.TableRefused label r) tt true_of)
-complete faults files sound words (Statuses.GridForm cause) old new before now true_of leaves blames never serves may = absurd (may.1 (Statuses.GridForm cause) tt true_of)
-complete faults files sound words (Statuses.GridLarge count) old new before now true_of leaves blames never serves may = absurd (may.1 (Statuses.GridLarge count) tt true_of)
-complete faults files sound words (Statuses.Unfit table grid) old new before now true_of leaves blames never serves may = absurd (may.1 (Statuses.Unfit table grid) tt true_of)
+complete faults files sound words (Statuses.ShelfFault count) old new before now true_of leaves blames never serves may =
+    absurd (not_blamed faults files sound words count old new leaves serves)
+complete faults files sound words (Statuses.Usage place) old new before now true_of leaves blames never serves may =
+    absurd (not_wrong words place may.0 true_of)
+complete faults files sound words (Statuses.TableForm form) old new before now true_of leaves blames never serves may =
+    absurd (may.1 (Statuses.TableForm form) tt true_of)
+complete faults files sound words (Statuses.TableRefused label r) old new before now true_of leaves blames never serves may =
+    absurd (may.1 (Statuses.TableRefused label r) tt true_of)
+complete faults files sound words (Statuses.GridForm cause) old new before now true_of leaves blames never serves may =
+    absurd (may.1 (Statuses.GridForm cause) tt true_of)
+complete faults files sound words (Statuses.GridLarge count) old new before now true_of leaves blames never serves may =
+    absurd (may.1 (Statuses.GridLarge count) tt true_of)
+complete faults files sound words (Statuses.Unfit table grid) old new before now true_of leaves blames never serves may =
+    absurd (may.1 (Statuses.Unfit table grid) tt true_of)
 
 -- files that hold what a command needs are not refused
-not_refused : (files : Option Files) (command : Command) (status : Status) → WrongEdgesStop → IsSome files → HoldNeeded files command → AreRefused files status command → ⊥
+not_refused : (files : Option Files) (command : Command) (status : Status) → WrongEdgesStop → IsSome files → HoldNeeded files command
+    → AreRefused files status command → ⊥
 not_refused None command status stops told holds refused = let none : IsSome {T = Files} None = told in cc
 not_refused (Some files) (generate_command kind d) status stops told holds refused = refused
 not_refused (Some files) (check_command table) status stops told holds refused = not_refused_check files table holds.0 status stops holds.1 refused
-not_refused (Some files) (extract_command table grid iso) status stops told holds refused = not_refused_mesh files table grid holds.0 holds.1 status stops holds.2 refused
+not_refused (Some files) (extract_command table grid iso) status stops told holds refused =
+    not_refused_mesh files table grid holds.0 holds.1 status stops holds.2 refused
 not_refused (Some files) (demo_command kind d size seed) status stops told holds refused = holds
 
-decided_answer : (files : Option Files) (words : List (List ℕ)) (status : Status) → IsDecided status → IsTrueAnswer files words status → SayBuilt words (IsTrueOf files status)
+decided_answer : (files : Option Files) (words : List (List ℕ)) (status : Status) → IsDecided status → IsTrueAnswer files words status
+    → SayBuilt words (IsTrueOf files status)
 decided_answer files words (Statuses.Usage place) decided true_of = absurd decided
 decided_answer files words _ decided true_of = true_of
 

@@ -1,22 +1,29 @@
 -- Files that hold what a command needs are not refused, and words say one command.
-use Rattle.std.proofs.Common.{◌≡◌, ℕ, ◌+◌, ◌<◌, ◌≤◌, ◌^◌, length, List, [], ◌∷◌, ◌++◌, take, drop, Option, Some, refl, sym, ap, subst, ◌∙◌, inl, inr, arith, append_assoc, append-nil, take-append-drop, length-append, length-drop}
+use Rattle.std.proofs.Common.{◌≡◌, ℕ, ◌+◌, ◌<◌, ◌≤◌, ◌^◌, length, List, [], ◌∷◌, ◌++◌, take, drop, Option, Some, refl, sym, ap, subst, ◌∙◌, inl, inr}
+use Rattle.std.proofs.Common.{arith, append_assoc, append-nil, take-append-drop, length-append, length-drop}
 use Rattle.std.proofs.lemmas.List.{nil_from_length, take_all}
 use Rattle.std.specs.Prelude.{All, flat_map, unwrap_or}
 use Rattle.iso_base.specs.Files.{Files}
 use Rattle.iso_model.specs.Acceptance.{IsAccepted}
 use Rattle.iso_model.specs.declared.Kind.{Kind}
 use Rattle.iso_model.specs.Cells.{label_count}
-use Rattle.iso_model.specs.GridFile.{Header, HasHeader, SpellHeader, SpellsGrid, SpellsSamples}
-use Rattle.iso_model.specs.GridFaults.{GridFault, HasSampleFault, too_many, cut_off, overlong}
+use Rattle.iso_formats.specs.GridFile.{Header, HasHeader, SpellHeader, SpellsGrid, SpellsSamples}
+use Rattle.iso_formats.specs.GridFaults.{GridFault, HasSampleFault, too_many, cut_off, overlong}
 use Rattle.iso_model.specs.Tables.{IsEntry, IsTable, Table}
-use Rattle.iso_model.specs.TableFile.{BeginsTable, CountPasses, HasTableFault, IsWholeTable, SpellsTable, WrongEdgeStops, entry_bytes, TableFault, big_endian, edge_fault, extra_fault, kind_fault, magic_fault, short_fault, table_bytes}
+use Rattle.iso_formats.specs.TableFile.{BeginsTable, CountPasses, HasTableFault, IsWholeTable, SpellsTable, WrongEdgeStops, entry_bytes, TableFault}
+use Rattle.iso_formats.specs.TableFile.{big_endian, edge_fault, extra_fault, kind_fault, magic_fault, short_fault, table_bytes}
 use Rattle.iso_model.specs.Values.{Grid}
-use Rattle.iso_model.proofs.HeaderFaultLaws.{header_or_fault}
-use Rattle.iso_model.proofs.HeaderLaws.{one_spelling}
-use Rattle.iso_model.proofs.LineLaws.{one_header}
-use Rattle.iso_model.proofs.TableLaws.{All_head, All_tail, entries_go_on, heads_same, table_reads_on}
+use Rattle.iso_formats.proofs.HeaderFaultLaws.{header_or_fault}
+use Rattle.iso_formats.proofs.HeaderLaws.{one_spelling}
+use Rattle.iso_formats.proofs.LineLaws.{one_header}
+use Rattle.iso_formats.proofs.TableLaws.{entries_go_on, heads_same, table_reads_on}
 use Rattle.iso_cli.specs.declared.status.Status.{Status}
-use Rattle.iso_cli.specs.Refusals.{FileHas, HoldBoth, HoldTable, HoldsAccepted, IsRefusedGrid, IsRefusedMesh, IsRefusedTable, by_grid, by_table, no_header, no_samples, no_table, not_accepted, too_long, unfit}
+use Rattle.iso_cli.specs.Refusals.{FileHas, HoldBoth, HoldTable, HoldsAccepted, IsRefusedGrid, IsRefusedMesh, IsRefusedTable, by_grid, by_table}
+use Rattle.iso_cli.specs.Refusals.{no_header, no_samples, no_table, not_accepted, too_long, unfit}
+use Rattle.std.proofs.lemmas.Option.{same_Some}
+use Rattle.std.proofs.lemmas.List.Elements.{All-head, All-tail}
+use Rattle.table_file.proofs.WritingLaws.{spelled_once}
+use Rattle.table_file.proofs.FaultLaws.{begins_count_at}
 
 -- ---- tables
 
@@ -30,7 +37,7 @@ same_tables t u a b c = λ i. record { kind = a i; dimension = b i; entries = c 
 -- what holds of each in a list holds of each in its back
 All_back : {X : Type 0} (P : X → Type 0) (xs ys : List X) → All P (xs ++ ys) → All P ys
 All_back P [] ys all = all
-All_back P (x ∷ xs) ys all = All_back P xs ys (All_tail P x (xs ++ ys) all)
+All_back P (x ∷ xs) ys all = All_back P xs ys (All-tail P x (xs ++ ys) all)
 
 -- a whole table begins a table with each of its fronts
 front_begins : (bytes : List ℕ) (n : ℕ) → IsWholeTable bytes → BeginsTable (take n bytes)
@@ -41,26 +48,23 @@ one_table : (t u : Table) (rest : List ℕ) → IsTable t → IsTable u → tabl
 one_table t u rest a b e =
     let r = table_reads_on t.kind t.dimension t.entries u rest [] b a.sound (omega (arith, a.whole)) e in
     let labels : length u.entries ≡ label_count t.kind t.dimension =
-    b.whole ∙ subst (λ (k : Kind). label_count k u.dimension ≡ label_count t.kind t.dimension) r.same_kind_of (subst (λ (n : ℕ). label_count t.kind n ≡ label_count t.kind t.dimension) r.same_dimension refl) in
-    let long : length r.on.further ≡ 0 = omega (arith, a.whole, labels, ap (λ (l : List (List (List ℕ))). length l) r.on.is, length-append t.entries r.on.further) in
+    b.whole
+        ∙ subst (λ (k : Kind). label_count k u.dimension ≡ label_count t.kind t.dimension) r.same_kind_of
+              (subst (λ (n : ℕ). label_count t.kind n ≡ label_count t.kind t.dimension) r.same_dimension refl) in
+    let long : length r.on.further ≡ 0 =
+        omega (arith, a.whole, labels, ap (λ (l : List (List (List ℕ))). length l) r.on.is, length-append t.entries r.on.further) in
     let none : r.on.further ≡ [] = nil_from_length r.on.further long in
     let entries : u.entries ≡ t.entries = r.on.is ∙ ap (λ (l : List (List (List ℕ))). t.entries ++ l) none ∙ append-nil t.entries in
     (same_tables t u r.same_kind_of r.same_dimension (sym entries), r.on.rest ∙ ap (λ (l : List (List (List ℕ))). flat_map entry_bytes l ++ []) none)
 
-spelled_once : (bytes : List ℕ) (t u : Table) → SpellsTable bytes t → SpellsTable bytes u → t ≡ u
-spelled_once bytes t u a b = (one_table t u [] a.0 b.0 (ap (λ (l : List ℕ). l ++ []) (sym a.1 ∙ b.1))).0
-
--- what follows a count begins with it
-count_at : (rest : List ℕ) (n : ℕ) (x : List ℕ) → rest ≡ big_endian 4 n ++ x → take 4 rest ≡ take (length rest) (big_endian 4 n)
-count_at rest n x e = ap (λ (l : List ℕ). take 4 l) e ∙ sym (take_all (length rest) (big_endian 4 n) (omega (arith, ap (λ (l : List ℕ). length l) e)))
-
-entry_passes : (kind : Kind) (d : ℕ) (rest : List ℕ) (gs : List (List (List ℕ))) → All (IsEntry kind d) gs → 0 < length gs → rest ≡ flat_map entry_bytes gs ++ []
+entry_passes : (kind : Kind) (d : ℕ) (rest : List ℕ) (gs : List (List (List ℕ))) → All (IsEntry kind d) gs → 0 < length gs
+    → rest ≡ flat_map entry_bytes gs ++ []
     → ((count : ℕ) → count ≤ 2 ^ 28 → ¬ (take 4 rest ≡ take (length rest) (big_endian 4 count))) → ⊥
 entry_passes kind d rest [] sound some e never = omega (arith, some)
 entry_passes kind d rest (g ∷ gs) sound some e never =
     let flat : List ℕ = flat_map (λ w. w) g in
     let more : List ℕ = flat_map entry_bytes gs ++ [] in
-    never (length g) (All_head (IsEntry kind d) g gs sound).0 (count_at rest (length g) (flat ++ more)
+    never (length g) (All-head (IsEntry kind d) g gs sound).0 (begins_count_at rest (length g) (flat ++ more)
     (e ∙ append_assoc (entry_bytes g) (flat_map entry_bytes gs) [] ∙ append_assoc (big_endian 4 (length g)) flat more))
 
 -- in a whole table no count passes
@@ -69,12 +73,18 @@ no_count_passes bytes whole c =
     let u = whole.0 in
     let heads = heads_same c.kind c.dimension u.kind u.dimension c.entries u.entries c.rest [] (sym c.split ∙ whole.1.1 ∙ sym (append-nil (table_bytes u))) in
     let sound : All (IsEntry c.kind c.dimension) u.entries =
-    subst (λ (k : Kind). All (IsEntry k c.dimension) u.entries) (sym heads.kinds) (subst (λ (n : ℕ). All (IsEntry u.kind n) u.entries) (sym heads.dimensions) whole.1.0.sound) in
+    subst (λ (k : Kind). All (IsEntry k c.dimension) u.entries) (sym heads.kinds)
+        (subst (λ (n : ℕ). All (IsEntry u.kind n) u.entries) (sym heads.dimensions) whole.1.0.sound) in
     let labels : length u.entries ≡ label_count c.kind c.dimension =
-    whole.1.0.whole ∙ subst (λ (k : Kind). label_count k u.dimension ≡ label_count c.kind c.dimension) heads.kinds (subst (λ (n : ℕ). label_count c.kind n ≡ label_count c.kind c.dimension) heads.dimensions refl) in
+    whole.1.0.whole
+        ∙ subst (λ (k : Kind). label_count k u.dimension ≡ label_count c.kind c.dimension) heads.kinds
+              (subst (λ (n : ℕ). label_count c.kind n ≡ label_count c.kind c.dimension) heads.dimensions refl) in
     let on = entries_go_on c.kind c.dimension c.entries u.entries c.rest [] (omega (arith, labels, c.room)) c.sound sound heads.rests in
     let some : 0 < length on.further = omega (arith, labels, c.room, ap (λ (l : List (List (List ℕ))). length l) on.is, length-append c.entries on.further) in
-    entry_passes c.kind c.dimension c.rest on.further (All_back (IsEntry c.kind c.dimension) c.entries on.further (subst (λ (l : List (List (List ℕ))). All (IsEntry c.kind c.dimension) l) on.is sound)) some on.rest c.passes
+    entry_passes c.kind c.dimension c.rest on.further
+        (All_back (IsEntry c.kind c.dimension) c.entries on.further
+             (subst (λ (l : List (List (List ℕ))). All (IsEntry c.kind c.dimension) l) on.is sound))
+        some on.rest c.passes
 
 -- a whole table has no fault
 no_fault : (bytes : List ℕ) (fault : TableFault) → WrongEdgesStop → IsWholeTable bytes → HasTableFault bytes fault → ⊥
@@ -120,21 +130,21 @@ not_refused_grid d bytes g _ spelled fits (no_samples k y fault q own has) =
 
 -- ---- the files
 
-Some-same : (x y : List ℕ) → Some x ≡ Some y → x ≡ y
-Some-same x y e = ap (λ (o : Option (List ℕ)). unwrap_or o x) e
-
 -- what two facts say of the file of a name, they say of the same bytes
-both_have : (files : Files) (name : List ℕ) (P Q : List ℕ → Type 0) → FileHas (Some files) name P → FileHas (Some files) name Q → (bytes : List ℕ) × P bytes × Q bytes
-both_have files name P Q p q = (p.0, p.2, subst Q (sym (Some-same p.0 q.0 (sym p.1 ∙ q.1))) q.2)
+both_have : (files : Files) (name : List ℕ) (P Q : List ℕ → Type 0) → FileHas (Some files) name P → FileHas (Some files) name Q
+    → (bytes : List ℕ) × P bytes × Q bytes
+both_have files name P Q p q = (p.0, p.2, subst Q (sym (same_Some p.0 q.0 (sym p.1 ∙ q.1))) q.2)
 
 -- a table file that holds an accepted table is not refused
-pub not_refused_check : (files : Files) (name : List ℕ) (t : Table) (status : Status) → WrongEdgesStop → HoldsAccepted (Some files) name t → FileHas (Some files) name (λ bytes. IsRefusedTable bytes status) → ⊥
+pub not_refused_check : (files : Files) (name : List ℕ) (t : Table) (status : Status) → WrongEdgesStop → HoldsAccepted (Some files) name t
+    → FileHas (Some files) name (λ bytes. IsRefusedTable bytes status) → ⊥
 not_refused_check files name t status stops holds refused =
     let both = both_have files name (λ bytes. HoldTable bytes t) (λ bytes. IsRefusedTable bytes status) holds.held refused in
     not_refused_table both.0 t status stops both.1 holds.accepted both.2
 
 -- files that hold an accepted table and a grid of its dimension are not refused
-pub not_refused_mesh : (files : Files) (table grid : List ℕ) (t : Table) (g : Grid) (status : Status) → WrongEdgesStop → HoldBoth (Some files) table grid t g → IsRefusedMesh (Some files) table grid status → ⊥
+pub not_refused_mesh : (files : Files) (table grid : List ℕ) (t : Table) (g : Grid) (status : Status) → WrongEdgesStop
+    → HoldBoth (Some files) table grid t g → IsRefusedMesh (Some files) table grid status → ⊥
 not_refused_mesh files table grid t g status stops holds (by_table refused) = not_refused_check files table t status stops holds.table refused
 not_refused_mesh files table grid t g status stops holds (by_grid u held refused) =
     let tables = both_have files table (λ bytes. HoldTable bytes t) (λ bytes. HoldTable bytes u) holds.table.held held.held in

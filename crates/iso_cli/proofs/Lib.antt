@@ -1,7 +1,7 @@
-pub mod Taking
+pub mod FileTaking
 pub mod Refusing
 pub mod Accepting
 pub mod Putting
 pub mod Excluding
 pub mod Answering
-pub mod Surfaces
+pub mod TextSurfaces

@@ -3,19 +3,19 @@ use Rattle.std.proofs.Common.{◌≡◌, ◌≢◌, ℕ, ◌<◌, ◌≤◌, ◌
 use Rattle.std.specs.Prelude.{Result, Ok, Err, IfErr, IfSome, IsErrAnd}
 use Rattle.iso_base.specs.declared.outside.Failed.{Failed}
 use Rattle.iso_base.specs.Files.{Files, bytes_of, BeginsFile}
-use Rattle.iso_model.specs.GridFile.{Header, HasHeader}
-use Rattle.iso_model.specs.GridFaults as cause
-use Rattle.iso_model.specs.TableFile.{IsTooLong, magic_fault, kind_fault, edge_fault, short_fault, extra_fault}
+use Rattle.iso_formats.specs.GridFile.{Header, HasHeader}
+use Rattle.iso_formats.specs.GridFaults as cause
+use Rattle.iso_formats.specs.TableFile.{IsTooLong, magic_fault, kind_fault, edge_fault, short_fault, extra_fault}
 use Rattle.nrrd_raw.specs.declared.faults.GridFault.{GridFault}
 use Rattle.nrrd_raw.specs.declared.faults.GridFault.TheVariants as Faults
-use Rattle.nrrd_raw.specs.Causes.{cause_of}
+use Rattle.nrrd_raw.specs.FaultCauses.{cause_of}
 use Rattle.nrrd_raw.specs.Headers.{HeaderIsRead}
 use Rattle.table_file.specs.declared.faults.TableFault.{TableFault}
 use Rattle.table_file.specs.declared.faults.TableFault.TheVariants as TableFaults
 use Rattle.table_file.specs.Reading.{HasCause}
 use Rattle.iso_cli.specs.declared.status.Status.{Status}
 use Rattle.iso_cli.specs.declared.status.Status.TheVariants.{Unfit}
-use Rattle.iso_cli.specs.Causes.{grid_status, table_status}
+use Rattle.iso_cli.specs.StatusCauses.{grid_status, table_status}
 use Rattle.iso_cli.specs.Refusals.{FileHas, IsRefusedGrid, IsRefusedTable, grid_refusal, no_header, no_samples, no_table, unfit}
 use Rattle.iso_cli.specs.Statuses.{IsDecided}
 
@@ -23,11 +23,6 @@ use Rattle.iso_cli.specs.Statuses.{IsDecided}
 pub IfErr-more : {T E : Type 0} (result : Result T E) (P Q : E → Type 0) → IsErrAnd result P → ((error : E) → P error → Q error) → IfErr result Q
 IfErr-more (Ok x) P Q is more = tt
 IfErr-more (Err e) P Q is more = more e is
-
--- what holds of any error
-pub IfErr-any : {T E : Type 0} (result : Result T E) (P : E → Type 0) → ((error : E) → P error) → IfErr result P
-IfErr-any (Ok x) P holds = tt
-IfErr-any (Err e) P holds = holds e
 
 -- a file that was begun is there, where the files are told, and all its bytes are left
 pub file_has : (files : Option Files) (name : List ℕ) (rest : Option (List ℕ)) (P : List ℕ → Type 0) → BeginsFile {E = Failed} files rest name (Ok tt)
@@ -45,7 +40,8 @@ not_there files name never = go (bytes_of files name) never
     go (Some bytes) never = absurd (never refl)
 
 -- what more holds of the bytes of a file
-pub file_map : (files : Option Files) (name : List ℕ) (P Q : List ℕ → Type 0) → ((bytes : List ℕ) → P bytes → Q bytes) → FileHas files name P → FileHas files name Q
+pub file_map : (files : Option Files) (name : List ℕ) (P Q : List ℕ → Type 0) → ((bytes : List ℕ) → P bytes → Q bytes) → FileHas files name P
+    → FileHas files name Q
 file_map None name P Q go has = tt
 file_map (Some files) name P Q go has = (has.0, has.1, go has.0 has.2)
 
@@ -56,7 +52,8 @@ pub short : (bytes : List ℕ) → length bytes ≤ 2 ^ 30 → IsTooLong bytes �
 short bytes few long = let far : 2 ^ 30 < length bytes = long in omega (arith, few, far)
 
 -- bytes that are not too many are refused with the status of their fault
-pub fault_refused : (fault : TableFault) (bytes : List ℕ) → length bytes ≤ 2 ^ 30 → HasCause bytes fault → IsDecided (table_status fault) → IsRefusedTable bytes (table_status fault)
+pub fault_refused : (fault : TableFault) (bytes : List ℕ) → length bytes ≤ 2 ^ 30 → HasCause bytes fault → IsDecided (table_status fault)
+    → IsRefusedTable bytes (table_status fault)
 fault_refused (TableFaults.Magic place) bytes few cause decided = no_table (magic_fault place) (short bytes few) cause
 fault_refused (TableFaults.Kind place) bytes few cause decided = no_table (kind_fault place) (short bytes few) cause
 fault_refused (TableFaults.EdgeNumber place) bytes few cause decided = no_table (edge_fault place) (short bytes few) cause
@@ -100,7 +97,8 @@ samples_refused d bytes data_bytes h fault p fits has decided =
     by_cause (IsRefusedGrid d bytes) (cause.HasSampleFault h data_bytes) (λ c s. no_samples h data_bytes c p fits s) fault has decided
 
 -- a header of another dimension is refused
-pub unfit_refused : (d dims : ℕ) (bytes data_bytes : List ℕ) (h : Header) → HasHeader bytes h data_bytes → length h.sizes ≡ dims → dims ≢ d → IsRefusedGrid d bytes (Unfit d dims)
+pub unfit_refused : (d dims : ℕ) (bytes data_bytes : List ℕ) (h : Header) → HasHeader bytes h data_bytes → length h.sizes ≡ dims → dims ≢ d
+    → IsRefusedGrid d bytes (Unfit d dims)
 unfit_refused d dims bytes data_bytes h p same differ =
     subst (λ (n : ℕ). IsRefusedGrid d bytes (Unfit d n)) same (unfit h data_bytes p (λ e. differ (sym same ∙ sym e)))
 

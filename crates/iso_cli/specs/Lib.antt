@@ -1,5 +1,5 @@
 pub mod StatusLines
-pub mod Causes
+pub mod StatusCauses
 pub mod Statuses
 pub mod Checked
 pub mod Shelves

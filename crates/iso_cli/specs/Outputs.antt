@@ -5,9 +5,9 @@ use Rattle.iso_base.specs.Faults.{Rose}
 use Rattle.iso_base.specs.Fronts.{AppendsFront}
 use Rattle.iso_model.specs.declared.Kind.{Kind}
 use Rattle.iso_model.specs.Entries.{IsHullTable}
-use Rattle.iso_model.specs.MeshText.{mesh_text}
+use Rattle.iso_formats.specs.MeshText.{mesh_text}
 use Rattle.iso_model.specs.Placed.{placed_mesh}
-use Rattle.iso_model.specs.TableFile.{table_bytes}
+use Rattle.iso_formats.specs.TableFile.{table_bytes}
 use Rattle.iso_model.specs.Tables.{Table}
 use Rattle.iso_model.specs.Values.{Grid, volume}
 use Rattle.iso_cli.specs.declared.status.Status.{Status}

@@ -2,10 +2,12 @@
 use Rattle.std.specs.Prelude.{◌≡◌, ◌≢◌, ℕ, List, length, Option, Some, None, ⊤}
 use Rattle.iso_base.specs.Files.{Files, file_bytes}
 use Rattle.iso_model.specs.Acceptance.{IsAccepted, IsRefusedAt}
-use Rattle.iso_model.specs.GridFile.{Header, HasHeader, SpellsGrid}
-use Rattle.iso_model.specs.GridFaults.{GridFault, HasHeaderFault, HasSampleFault, wrong_magic, header_too_long, header_unended, unreadable_line, repeated_field, wrong_type, wrong_dimension, wrong_sizes, wrong_encoding, wrong_endian, wrong_skip, detached_data, missing_field, sizes_too_large, data_too_short, data_trailing}
+use Rattle.iso_formats.specs.GridFile.{Header, HasHeader, SpellsGrid}
+use Rattle.iso_formats.specs.GridFaults.{GridFault, HasHeaderFault, HasSampleFault, wrong_magic, header_too_long, header_unended, unreadable_line}
+use Rattle.iso_formats.specs.GridFaults.{repeated_field, wrong_type, wrong_dimension, wrong_sizes, wrong_encoding, wrong_endian, wrong_skip}
+use Rattle.iso_formats.specs.GridFaults.{detached_data, missing_field, sizes_too_large, data_too_short, data_trailing}
 use Rattle.iso_model.specs.Tables.{Table, IsTable}
-use Rattle.iso_model.specs.TableFile.{IsTooLong, SpellsTable, TableFault, HasTableFault, magic_fault, kind_fault, edge_fault, short_fault, extra_fault}
+use Rattle.iso_formats.specs.TableFile.{IsTooLong, SpellsTable, TableFault, HasTableFault, magic_fault, kind_fault, edge_fault, short_fault, extra_fault}
 use Rattle.iso_model.specs.Values.{Grid, IsRegularGrid}
 use Rattle.iso_cli.specs.declared.status.Status.{Status}
 use Rattle.iso_cli.specs.declared.status.Status.TheVariants as Statuses
@@ -33,7 +35,8 @@ table_refusal (edge_fault place) = Statuses.TableForm (Forms.Fault place TableCa
 table_refusal (short_fault place) = Statuses.TableForm (Forms.Fault place TableCauses.Short)
 table_refusal (extra_fault place) = Statuses.TableForm (Forms.Fault place TableCauses.Extra)
 
--- the bytes of a table file are refused: there are too many, or else they have a fault, or else they are those of a table that fails a rule, the least one of the least label that fails any
+-- the bytes of a table file are refused: there are too many, or else they have a fault, or else they are those of a table that fails a rule, the
+-- least one of the least label that fails any
 pub data IsRefusedTable (bytes : List ℕ) : Status → Type 0 where
   too_long : IsTooLong bytes → IsRefusedTable bytes (Statuses.TableForm Forms.Long)
   no_table : (fault : TableFault) → ¬ IsTooLong bytes → HasTableFault bytes fault → IsRefusedTable bytes (table_refusal fault)
@@ -66,7 +69,8 @@ grid_refusal (sizes_too_large count) = Statuses.GridLarge count
 grid_refusal (data_too_short count) = Statuses.GridForm (GridCauses.DataShort count)
 grid_refusal data_trailing = Statuses.GridForm GridCauses.Trailing
 
--- the bytes of a grid file are refused for a table of dimension d: they begin with no well-formed header, or its dimension is another one, or the bytes behind it spell no samples
+-- the bytes of a grid file are refused for a table of dimension d: they begin with no well-formed header, or its dimension is another one, or the
+-- bytes behind it spell no samples
 pub data IsRefusedGrid (d : ℕ) (bytes : List ℕ) : Status → Type 0 where
   no_header : (fault : GridFault) → HasHeaderFault bytes fault → IsRefusedGrid d bytes (grid_refusal fault)
   unfit : (h : Header) (data_bytes : List ℕ) → HasHeader bytes h data_bytes → d ≢ length h.sizes → IsRefusedGrid d bytes (Statuses.Unfit d (length h.sizes))

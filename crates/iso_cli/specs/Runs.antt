@@ -6,7 +6,7 @@ use Rattle.iso_base.specs.Faults.{Rose}
 use Rattle.iso_base.specs.Files.{Files, bytes_of}
 use Rattle.iso_base.specs.Fronts.{AppendsFront}
 use Rattle.iso_model.specs.declared.Kind.{Kind}
-use Rattle.iso_model.specs.Commands.{Command, Say, generate_command, check_command, extract_command, demo_command, AreRight, IsWrongWord}
+use Rattle.iso_formats.specs.Commands.{Command, Say, generate_command, check_command, extract_command, demo_command, AreRight, IsWrongWord}
 use Rattle.iso_model.specs.Bipolar.{bipolar_edge}
 use Rattle.iso_model.specs.Boundary.{OnBoundary}
 use Rattle.iso_model.specs.Faces.{face_without}
@@ -42,7 +42,8 @@ AreRefused files status (demo_command kind d size seed) = ⊥
 abbrev pub IsTrueOf : Option Files → Status → Command → Type 0
 IsTrueOf files status command = IsDecided status → AreRefused files status command
 
--- the answer is true of the words and of the files: the words are refused at the first wrong one, and else they say a command, and the files are refused as the status says
+-- the answer is true of the words and of the files: the words are refused at the first wrong one, and else they say a command, and the files are
+-- refused as the status says
 abbrev pub IsTrueAnswer : Option Files → List (List ℕ) → Status → Type 0
 IsTrueAnswer files words (Statuses.Usage place) = IsWrongWord is_built words place
 IsTrueAnswer files words status = SayBuilt words (IsTrueOf files status)
@@ -82,9 +83,11 @@ LacksFile files (check_command table) = bytes_of files table ≡ None
 LacksFile files (extract_command table grid iso) = LacksMeshFile files table grid
 LacksFile files (demo_command kind d size seed) = ⊥
 
--- the shelf is as it was but for its count of faults and what was taken of its files; it is blamed only where its count rose, and with the count after the run; where it was sound,
+-- the shelf is as it was but for its count of faults and what was taken of its files; it is blamed only where its count rose, and with the count
+-- after the run; where it was sound,
 -- only for a file that is lacking; and for wrong words it is not touched at all
-pub record LeavesShelf {S : Type 0} (faults : S → ℕ) (files : S → Option Files) (sound : S → Type 0) (Lacks : Type 0) (status : Status) (old new : S) : Type 0 where
+pub record LeavesShelf {S : Type 0} (faults : S → ℕ) (files : S → Option Files) (sound : S → Type 0) (Lacks : Type 0) (status : Status) (old new : S)
+    : Type 0 where
   pub same : IsSameShelf faults files sound old new
   pub blamed : BlamesShelf status (faults old) (faults new)
   pub missing : sound old → IsShelfFault status → Lacks
@@ -101,7 +104,8 @@ abbrev pub HasOuterBoundary : Volume → List (List ℕ) → Type 0
 HasOuterBoundary v simplices = (w : List ℕ) (i : ℕ) → Contains simplices w
     → OnBoundary v (face_without w i) ↔ OnOuterBoundary v.sizes (ends_of (map (bipolar_edge v) (face_without w i)))
 
--- the text of the placed mesh of the table and the grid that the files hold, at the isovalue; and this mesh is an isosurface, whose boundary is on that of the grid,
+-- the text of the placed mesh of the table and the grid that the files hold, at the isovalue; and this mesh is an isosurface, whose boundary is on
+-- that of the grid,
 -- and in three dimensions the triangles at each vertex are met by one walk, which closes exactly where the vertex is not on that boundary
 pub record IsMeshText (files : Option Files) (table grid : List ℕ) (iso : ℤ) (text : List ℕ) : Type 0 where
   pub t : Table

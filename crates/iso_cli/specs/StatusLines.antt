@@ -1,8 +1,8 @@
 -- The exit code and the line of each status.
 use Rattle.std.specs.Prelude.{ℕ, List, [], ◌∷◌, ◌++◌, codes}
 use Rattle.std.specs.Fmt.{decimal}
-use Rattle.iso_model.specs.declared.Field.{Field}
-use Rattle.iso_model.specs.declared.Field.TheVariants as Fields
+use Rattle.iso_formats.specs.declared.Field.{Field}
+use Rattle.iso_formats.specs.declared.Field.TheVariants as Fields
 use Rattle.iso_cli.specs.declared.status.Status.{Status}
 use Rattle.iso_cli.specs.declared.status.Status.TheVariants as Statuses
 use Rattle.iso_cli.specs.declared.status.TableForm.{TableForm}

@@ -2,7 +2,7 @@
 
 ghost use Rattle.std.specs.Prelude.{◌≡◌, length, None, IfOk, IfErr};
 ghost use Rattle.iso_base.specs.Files.{bytes_of};
-ghost use Rattle.iso_model.specs.GridFile.{SpellsGrid};
+ghost use Rattle.iso_formats.specs.GridFile.{SpellsGrid};
 ghost use Rattle.iso_model.specs.Values.{IsRegularGrid};
 ghost use Rattle.table_file.specs.Reading.{table_in};
 ghost use Rattle.iso_cli.specs.Checked.{checked_in};

@@ -6,7 +6,7 @@ ghost use Rattle.iso_cli.specs.StatusLines.{status_line, grid_line, table_line, 
 
 use crate::status::{GridCause, Status, TableCause, TableForm};
 use arrayvec::ArrayString;
-use iso_model::Field;
+use iso_formats::Field;
 use itoa::Integer;
 
 /// The line on standard error, with its line feed; empty for `Done`.

@@ -4,10 +4,10 @@ ghost use Rattle.std.specs.Prelude.{◌≡◌};
 ghost use Rattle.nrrd_raw.specs.declared.faults.GridFault.{GridFault};
 ghost use Rattle.iso_cli.specs.declared.status.Status.TheVariants.{Memory, ShelfFault, WriteFault};
 ghost use Rattle.iso_cli.specs.StatusLines.{status_code};
-ghost use Rattle.iso_cli.specs.Causes.{grid_status, table_status};
+ghost use Rattle.iso_cli.specs.StatusCauses.{grid_status, table_status};
 
 use iso_base::Failed;
-use iso_model::Field;
+use iso_formats::Field;
 use nrrd_raw::GridFault;
 use off_write::WriteFault;
 use std::alloc::{AllocError, AllocFailed};

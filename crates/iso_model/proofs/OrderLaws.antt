@@ -1,34 +1,32 @@
 -- The order "last coordinate first" is strict, and of two points of one dimension that differ one comes first; a list put in this order of keys ascends and has the members of the list.
 use Rattle.std.specs.Prelude.{◌≡◌, ◌<◌, ◌⊎◌, ℕ, Bool, true, false, ◌&&◌, nat_lt, List, [], ◌∷◌, length, Contains, if◌then◌else◌}
 use Rattle.std.proofs.Common.{refl, sym, ap, ◌∙◌, arith, subst, inl, inr}
-use Rattle.std.proofs.lemmas.Bool.{false≢true}
+use Rattle.std.proofs.lemmas.Bool.{false≢true, or_cases, and_parts, or_left, or_right}
 use Rattle.std.proofs.lemmas.Bool.Decides.{nat_tests}
 use Rattle.std.proofs.lemmas.Slice.Eq.{bytes_eq-Decides}
-use Rattle.iso_model.specs.Orders.{same_list}
+use Rattle.lists.specs.Orders.{same_list}
 use Rattle.iso_model.specs.Points.{comes_first, entered, ascending}
-use Rattle.iso_model.proofs.Deciding.{either, both, left_or, right_or, lt_of, of_lt}
-use Rattle.iso_model.proofs.FaceLaws.{Contains-head, Contains-tail, Contains-split}
-use Rattle.iso_model.proofs.FixedLists.{IsStrict, AscendsBy, before_all}
+use Rattle.lists.specs.Members.{IsStrict, AscendsBy}
+use Rattle.lists.proofs.Tests.{lt_of, of_lt}
+use Rattle.lists.proofs.Contained.{Contains-head, Contains-tail, Contains-split, none_contained}
+use Rattle.lists.proofs.Orderings.{before_all}
 
 -- ---- last coordinate first
-
-same_self : (p : List ℕ) → same_list p p ≡ true
-same_self p = (bytes_eq-Decides p p).1 refl
 
 -- the one point before the other, by the parts of the test
 abbrev Before : ℕ → List ℕ → ℕ → List ℕ → Type 0
 Before x p y q = (comes_first p q ≡ true) ⊎ ((p ≡ q) × (x < y))
 
 before_of : (x : ℕ) (p : List ℕ) (y : ℕ) (q : List ℕ) → comes_first (x ∷ p) (y ∷ q) ≡ true → Before x p y q
-before_of x p y q e = elim (either (comes_first p q) (same_list p q && nat_lt x y) e) as (λ _. Before x p y q) [
+before_of x p y q e = elim (or_cases (comes_first p q) (same_list p q && nat_lt x y) e) as (λ _. Before x p y q) [
   | inl less ↦ inl less
-  | inr same ↦ inr ((bytes_eq-Decides p q).0 (both (same_list p q) (nat_lt x y) same).0, lt_of x y (both (same_list p q) (nat_lt x y) same).1)
+  | inr same ↦ inr ((bytes_eq-Decides p q).0 (and_parts (same_list p q) (nat_lt x y) same).0, lt_of x y (and_parts (same_list p q) (nat_lt x y) same).1)
 ]
 
 of_before : (x : ℕ) (p : List ℕ) (y : ℕ) (q : List ℕ) → Before x p y q → comes_first (x ∷ p) (y ∷ q) ≡ true
-of_before x p y q (inl less) = left_or (comes_first p q) (same_list p q && nat_lt x y) less
+of_before x p y q (inl less) = or_left (comes_first p q) (same_list p q && nat_lt x y) less
 of_before x p y q (inr same) =
-    right_or (comes_first p q) (same_list p q && nat_lt x y)
+    or_right (comes_first p q) (same_list p q && nat_lt x y)
     (ap (λ b. b && nat_lt x y) ((bytes_eq-Decides p q).1 same.0) ∙ of_lt x y same.1)
 
 further : (x : ℕ) (p : List ℕ) (y : ℕ) (q : List ℕ) (z : ℕ) (r : List ℕ) → (comes_first p q ≡ true → comes_first q r ≡ true → comes_first p r ≡ true)
@@ -81,9 +79,6 @@ Earlier key x y = comes_first (key x) (key y) ≡ true
 pub keys_strict : {X : Type 0} (key : X → List ℕ) → IsStrict (Earlier key)
 keys_strict key = record { irreflexive = λ x e. comes_first-irreflexive (key x) e; transitive = λ x y z a b. comes_first-trans (key x) (key y) (key z) a b }
 
-none : {X : Type 0} (x : X) → Contains [] x → ⊥
-none x c = let h : c.0 < 0 = c.1 in omega arith
-
 -- ---- lists put in order
 
 cases : {X : Type 0} (key : X → List ℕ) (x y : X) (ys : List X) (P : List X → Type 0) → (comes_first (key x) (key y) ≡ true → P (x ∷ y ∷ ys))
@@ -113,7 +108,7 @@ entered-members {X} key x (y ∷ ys) z c = cases key x y ys (λ l. Contains l z 
     c
 
 pub entered-keeps : {X : Type 0} (key : X → List ℕ) (x : X) (ys : List X) (z : X) → Contains ys z → Contains (entered key x ys) z
-entered-keeps key x [] z c = absurd (none z c)
+entered-keeps key x [] z c = absurd (none_contained z c)
 entered-keeps key x (y ∷ ys) z c = cases key x y ys (λ l. Contains l z)
     (λ e. Contains-tail z x (y ∷ ys) c)
     (λ e. c)
@@ -130,18 +125,20 @@ entered-takes key x (y ∷ ys) own = cases key x y ys (λ l. Contains l x)
     (λ e. subst (λ w. Contains (y ∷ ys) w) (sym (own y (Contains-head y ys) e)) (Contains-head y ys))
     (λ a b. Contains-tail x y (entered key x ys) (entered-takes key x ys (λ z c. own z (Contains-tail z y ys c))))
 
-pub entered-ascends : {X : Type 0} (key : X → List ℕ) (x : X) (ys : List X) → ((y : X) → Contains ys y → length (key x) ≡ length (key y)) → AscendsBy (Earlier key) ys → AscendsBy (Earlier key) (entered key x ys)
-entered-ascends key x [] wide a = (λ y c. absurd (none y c), tt)
+pub entered-ascends : {X : Type 0} (key : X → List ℕ) (x : X) (ys : List X) → ((y : X) → Contains ys y → length (key x) ≡ length (key y))
+    → AscendsBy (Earlier key) ys → AscendsBy (Earlier key) (entered key x ys)
+entered-ascends key x [] wide a = (λ y c. absurd (none_contained y c), tt)
 entered-ascends {X} key x (y ∷ ys) wide a = cases key x y ys (λ l. AscendsBy (Earlier key) l)
     (λ e. (before_all (Earlier key) (keys_strict key) x y ys e a, a))
     (λ e. a)
     (λ n m. (
       λ z c. elim (entered-members key x ys z c) as (λ _. comes_first (key y) (key z) ≡ true) [
-        | inl e ↦ subst (λ w. comes_first (key y) (key w) ≡ true) e (elim (comes_first-total (key x) (key y) (wide y (Contains-head y ys))) as (λ _. comes_first (key y) (key x) ≡ true) [
-          | inl less ↦ absurd (n less)
-          | inr (inl same) ↦ absurd (m same)
-          | inr (inr more) ↦ more
-        ])
+        | inl e ↦ subst (λ w. comes_first (key y) (key w) ≡ true) e
+            (elim (comes_first-total (key x) (key y) (wide y (Contains-head y ys))) as (λ _. comes_first (key y) (key x) ≡ true) [
+              | inl less ↦ absurd (n less)
+              | inr (inl same) ↦ absurd (m same)
+              | inr (inr more) ↦ more
+            ])
         | inr d ↦ a.0 z d
       ],
       entered-ascends key x ys (λ z c. wide z (Contains-tail z y ys c)) a.1,
@@ -166,7 +163,8 @@ ascending-all key (x ∷ xs) own z c =
     ]
 
 -- where all keys have one length, the list ascends
-pub ascending-ascends : {X : Type 0} (key : X → List ℕ) (n : ℕ) (xs : List X) → ((x : X) → Contains xs x → length (key x) ≡ n) → AscendsBy (Earlier key) (ascending key xs)
+pub ascending-ascends : {X : Type 0} (key : X → List ℕ) (n : ℕ) (xs : List X) → ((x : X) → Contains xs x → length (key x) ≡ n)
+    → AscendsBy (Earlier key) (ascending key xs)
 ascending-ascends key n [] wide = tt
 ascending-ascends key n (x ∷ xs) wide =
     entered-ascends key x (ascending key xs) (λ y c. wide x (Contains-head x xs) ∙ sym (wide y (Contains-tail y x xs (ascending-members key xs y c))))

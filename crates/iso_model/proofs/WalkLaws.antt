@@ -1,41 +1,32 @@
 -- The triangles that a walk meets, as they are computed by steps, are a walk, and no others from the same first triangle are.
-use Rattle.std.specs.Prelude.{◌≡◌, ◌≢◌, ◌<◌, ◌≤◌, ◌+◌, ◌⊎◌, ℕ, zero, suc, Bool, true, false, not, ◌&&◌, nat_eq, List, [], ◌∷◌, length, find, slice_index_or, Contains, Option, Some, None, option_and_then, if◌then◌else◌, ⊤}
+use Rattle.std.specs.Prelude.{◌≡◌, ◌≢◌, ◌<◌, ◌≤◌, ◌+◌, ◌⊎◌, ℕ, zero, suc, Bool, true, false, not, ◌&&◌, nat_eq, List, [], ◌∷◌, length, find}
+use Rattle.std.specs.Prelude.{slice_index_or, Contains, Option, Some, None, option_and_then, if◌then◌else◌, ⊤}
 use Rattle.std.specs.Bool.{Decides}
 use Rattle.std.specs.List.{AllAdjacentBelow}
 use Rattle.std.proofs.Common.{refl, sym, ap, ◌∙◌, arith, subst, inl, inr}
-use Rattle.std.proofs.lemmas.Bool.{false≢true}
+use Rattle.std.proofs.lemmas.Bool.{false≢true, cases_Bool, false_from_ne_true}
 use Rattle.std.proofs.lemmas.Bool.Decides.{Decides-eqb}
-use Rattle.iso_model.specs.Orders.{has, is_distinct}
+use Rattle.lists.specs.Orders.{has, is_distinct}
 use Rattle.iso_model.specs.Walks.{next_at, has_p, reading, triangles_at, steps_from, until_repeated, walk_from, next_after, IsWalk}
-use Rattle.iso_model.proofs.Deciding.{Decides-some}
-use Rattle.iso_model.proofs.FaceLaws.{Contains-head, Contains-tail, Contains-split}
+use Rattle.lists.proofs.Contained.{Contains-head, Contains-tail, Contains-split, Decides-some, none_contained}
+use Rattle.std.proofs.lemmas.Option.{same_Some}
+use Rattle.lists.proofs.Tests.{next_place}
 
 -- ---- members and tests
-
-none : {X : Type 0} (x : X) → Contains [] x → ⊥
-none x c = let h : c.0 < 0 = c.1 in omega arith
 
 pub has-Decides : (xs : List ℕ) (y : ℕ) → Decides (has xs y) (Contains xs y)
 has-Decides xs y =
     let d = Decides-some (nat_eq y) (λ x. y ≡ x) (Decides-eqb y) xs in
     (λ e. let h = d.0 e in subst (λ (x : ℕ). Contains xs x) (sym h.2) h.1, λ c. d.1 (y, c, refl))
 
-test_cases : (b : Bool) → (b ≡ true) ⊎ (b ≡ false)
-test_cases true = inl refl
-test_cases false = inr refl
-
-false_from : (b : Bool) → (b ≡ true → ⊥) → b ≡ false
-false_from true n = absurd (n refl)
-false_from false n = refl
-
 lacks : (xs : List ℕ) (y : ℕ) → (Contains xs y → ⊥) → has xs y ≡ false
-lacks xs y n = false_from (has xs y) (λ e. n ((has-Decides xs y).0 e))
+lacks xs y n = false_from_ne_true (has xs y) (λ e. n ((has-Decides xs y).0 e))
 
 distinct_cases : (a b : Bool) → (not a && b) ≡ true → (a ≡ false) × (b ≡ true)
 distinct_cases true b e = absurd (cc)
 distinct_cases false b e = (refl, e)
 
--- the first of a list that has no member twice is none of the others
+-- the first of a list that has no member twice is none_contained of the others
 first_apart : (x : ℕ) (xs : List ℕ) → is_distinct (x ∷ xs) ≡ true → Contains xs x → ⊥
 first_apart x xs e c = false≢true (sym (distinct_cases (has xs x) (is_distinct xs) e).0 ∙ (has-Decides xs x).1 c)
 
@@ -53,7 +44,7 @@ pub record Removed (xs : List ℕ) (x : ℕ) : Type 0 where
   pub kept : (z : ℕ) → Contains xs z → z ≢ x → Contains rest z
 
 removed : (xs : List ℕ) (x : ℕ) → Contains xs x → Removed xs x
-removed [] x c = absurd (none x c)
+removed [] x c = absurd (none_contained x c)
 removed (y ∷ xs) x c = elim (Contains-split x y xs c) as (λ _. Removed (y ∷ xs) x) [
   | inl e ↦ record {
     rest = xs;
@@ -90,21 +81,22 @@ abbrev Chain : List (List ℕ) → ℕ → ℕ → List ℕ → Type 0
 Chain simplices k x [] = ⊤
 Chain simplices k x (y ∷ ys) = (next_at simplices k x ≡ Some y) × Chain simplices k y ys
 
-next_place : (i : ℕ) → suc (i + 1) ≡ suc i + 1
-next_place i = omega arith
-
-chain_steps : (simplices : List (List ℕ)) (k x : ℕ) (xs : List ℕ) → Chain simplices k x xs → AllAdjacentBelow (λ t u. next_at simplices k t ≡ Some u) (x ∷ xs) (length (x ∷ xs))
+chain_steps : (simplices : List (List ℕ)) (k x : ℕ) (xs : List ℕ) → Chain simplices k x xs
+    → AllAdjacentBelow (λ t u. next_at simplices k t ≡ Some u) (x ∷ xs) (length (x ∷ xs))
 chain_steps simplices k x [] c i d h = absurd (omega (arith, h))
 chain_steps simplices k x (y ∷ ys) c zero d h = c.0
 chain_steps simplices k x (y ∷ ys) c (suc i) d h =
-    subst (λ (n : ℕ). next_at simplices k (slice_index_or (y ∷ ys) i d) ≡ Some (slice_index_or (x ∷ y ∷ ys) n d)) (next_place i) (chain_steps simplices k y ys c.1 i d (omega (arith, h)))
+    subst (λ (n : ℕ). next_at simplices k (slice_index_or (y ∷ ys) i d) ≡ Some (slice_index_or (x ∷ y ∷ ys) n d)) (next_place i)
+    (chain_steps simplices k y ys c.1 i d (omega (arith, h)))
 
-steps_chain : (simplices : List (List ℕ)) (k x : ℕ) (xs : List ℕ) → AllAdjacentBelow (λ t u. next_at simplices k t ≡ Some u) (x ∷ xs) (length (x ∷ xs)) → Chain simplices k x xs
+steps_chain : (simplices : List (List ℕ)) (k x : ℕ) (xs : List ℕ)
+    → AllAdjacentBelow (λ t u. next_at simplices k t ≡ Some u) (x ∷ xs) (length (x ∷ xs)) → Chain simplices k x xs
 steps_chain simplices k x [] a = tt
 steps_chain simplices k x (y ∷ ys) a = (
   a 0 0 (omega arith),
   steps_chain simplices k y ys (λ i d h.
-      subst (λ (n : ℕ). next_at simplices k (slice_index_or (y ∷ ys) i d) ≡ Some (slice_index_or (x ∷ y ∷ ys) n d)) (sym (next_place i)) (a (suc i) d (omega (arith, h)))),
+      subst (λ (n : ℕ). next_at simplices k (slice_index_or (y ∷ ys) i d) ≡ Some (slice_index_or (x ∷ y ∷ ys) n d)) (sym (next_place i))
+      (a (suc i) d (omega (arith, h)))),
 )
 
 find_in : (p : ℕ → Bool) (xs : List ℕ) (y : ℕ) → find p xs ≡ Some y → Contains xs y
@@ -123,10 +115,11 @@ read_in simplices k (Some r) u e = find_in (has_p simplices k r.1) (triangles_at
 pub next_in : (simplices : List (List ℕ)) (k t u : ℕ) → next_at simplices k t ≡ Some u → Contains (triangles_at simplices k) u
 next_in simplices k t u e = read_in simplices k (reading simplices k t) u e
 
-chain_in : (simplices : List (List ℕ)) (k x : ℕ) (xs : List ℕ) → Contains (triangles_at simplices k) x → Chain simplices k x xs → (z : ℕ) → Contains (x ∷ xs) z → Contains (triangles_at simplices k) z
+chain_in : (simplices : List (List ℕ)) (k x : ℕ) (xs : List ℕ) → Contains (triangles_at simplices k) x → Chain simplices k x xs → (z : ℕ)
+    → Contains (x ∷ xs) z → Contains (triangles_at simplices k) z
 chain_in simplices k x [] at c z d = elim (Contains-split z x [] d) as (λ _. Contains (triangles_at simplices k) z) [
   | inl e ↦ subst (λ (w : ℕ). Contains (triangles_at simplices k) w) e at
-  | inr m ↦ absurd (none z m)
+  | inr m ↦ absurd (none_contained z m)
 ]
 chain_in simplices k x (y ∷ ys) at c z d = elim (Contains-split z x (y ∷ ys) d) as (λ _. Contains (triangles_at simplices k) z) [
   | inl e ↦ subst (λ (w : ℕ). Contains (triangles_at simplices k) w) e at
@@ -139,14 +132,16 @@ met_stops : (simplices : List (List ℕ)) (k n : ℕ) (met : List ℕ) (u : ℕ)
 met_stops simplices k zero met u e = ap (λ b. if b then [] else u ∷ until_repeated (u ∷ met) []) e
 met_stops simplices k (suc n) met u e = ap (λ b. if b then [] else u ∷ until_repeated (u ∷ met) (steps_from simplices k n (next_at simplices k u))) e
 
-stops : (simplices : List (List ℕ)) (k n : ℕ) (met : List ℕ) (o : Option ℕ) → ((u : ℕ) → o ≡ Some u → Contains met u) → until_repeated met (steps_from simplices k n o) ≡ []
+stops : (simplices : List (List ℕ)) (k n : ℕ) (met : List ℕ) (o : Option ℕ) → ((u : ℕ) → o ≡ Some u → Contains met u)
+    → until_repeated met (steps_from simplices k n o) ≡ []
 stops simplices k n met None ends = refl
 stops simplices k n met (Some u) ends = met_stops simplices k n met u ((has-Decides met u).1 (ends u refl))
 
 -- one step, to a triangle that was not met before
 steps_once : (simplices : List (List ℕ)) (k n : ℕ) (met : List ℕ) (x : ℕ) → (Contains met x → ⊥)
     → until_repeated met (steps_from simplices k (suc n) (Some x)) ≡ x ∷ until_repeated (x ∷ met) (steps_from simplices k n (next_at simplices k x))
-steps_once simplices k n met x new = ap (λ b. if b then [] else x ∷ until_repeated (x ∷ met) (steps_from simplices k n (next_at simplices k x))) (lacks met x new)
+steps_once simplices k n met x new =
+    ap (λ b. if b then [] else x ∷ until_repeated (x ∷ met) (steps_from simplices k n (next_at simplices k x))) (lacks met x new)
 
 follow : (simplices : List (List ℕ)) (k : ℕ) (met : List ℕ) (x : ℕ) (xs : List ℕ) (n : ℕ) → Chain simplices k x xs → is_distinct (x ∷ xs) ≡ true
     → ((z : ℕ) → Contains met z → Contains (x ∷ xs) z → ⊥) → ((u : ℕ) → next_after simplices k (x ∷ xs) ≡ Some u → Contains met u ⊎ Contains (x ∷ xs) u)
@@ -158,7 +153,7 @@ follow simplices k met x [] (suc n) c e apart ends h =
       | inl m ↦ Contains-tail u x met m
       | inr m ↦ elim (Contains-split u x [] m) as (λ _. Contains (x ∷ met) u) [
         | inl g ↦ subst (λ (w : ℕ). Contains (x ∷ met) w) g (Contains-head x met)
-        | inr o ↦ absurd (none u o)
+        | inr o ↦ absurd (none_contained u o)
       ]
     ]))
 follow simplices k met x (y ∷ ys) (suc n) c e apart ends h =
@@ -178,17 +173,19 @@ follow simplices k met x (y ∷ ys) (suc n) c e apart ends h =
     ])
     (omega (arith, h)))
 
-walk_shape : (simplices : List (List ℕ)) (k x : ℕ) (further order : List ℕ) → Contains (triangles_at simplices k) x → IsWalk simplices k x order → order ≡ x ∷ further
+walk_shape : (simplices : List (List ℕ)) (k x : ℕ) (further order : List ℕ) → Contains (triangles_at simplices k) x → IsWalk simplices k x order
+    → order ≡ x ∷ further
     → walk_from simplices k (Some x) ≡ x ∷ further
 walk_shape simplices k x further order at is e =
     let once = subst (λ (l : List ℕ). is_distinct l ≡ true) e is.once in
     let goes = steps_chain simplices k x further (subst (λ (l : List ℕ). AllAdjacentBelow (λ t u. next_at simplices k t ≡ Some u) l (length l)) e is.goes_on) in
     let few = length-distinct-le (x ∷ further) (triangles_at simplices k) once (chain_in simplices k x further at goes) in
-    follow simplices k [] x further (length (triangles_at simplices k)) goes once (λ z m d. none z m)
+    follow simplices k [] x further (length (triangles_at simplices k)) goes once (λ z m d. none_contained z m)
     (λ u f. inr (subst (λ (l : List ℕ). next_after simplices k l ≡ Some u → Contains l u) e (is.ends u) f)) (omega (arith, few))
 
 -- a walk from a triangle at k is the one that the steps give
-pub walk_from-fixed : (simplices : List (List ℕ)) (k t : ℕ) (order : List ℕ) → Contains (triangles_at simplices k) t → IsWalk simplices k t order → order ≡ walk_from simplices k (Some t)
+pub walk_from-fixed : (simplices : List (List ℕ)) (k t : ℕ) (order : List ℕ) → Contains (triangles_at simplices k) t → IsWalk simplices k t order
+    → order ≡ walk_from simplices k (Some t)
 walk_from-fixed simplices k t order at is = is.begins.1 ∙ sym (walk_shape simplices k t is.begins.0 order at is is.begins.1)
 
 -- ---- what the steps give is a walk
@@ -205,13 +202,10 @@ pub record Walked (simplices : List (List ℕ)) (k : ℕ) (met : List ℕ) (x : 
 alone : (met : List ℕ) (x : ℕ) → (Contains met x → ⊥) → (z : ℕ) → Contains met z → Contains (x ∷ []) z → ⊥
 alone met x new z m d = elim (Contains-split z x [] d) as (λ _. ⊥) [
   | inl e ↦ new (subst (λ (w : ℕ). Contains met w) (sym e) m)
-  | inr o ↦ none z o
+  | inr o ↦ none_contained z o
 ]
 
-same_some : (u w : ℕ) → Some u ≡ Some w → u ≡ w
-same_some u w e = cc
-
--- after x none comes, or one that was met
+-- after x none_contained comes, or one that was met
 last_step : (simplices : List (List ℕ)) (k n : ℕ) (met : List ℕ) (x : ℕ) (order : List ℕ) → (Contains met x → ⊥)
     → order ≡ x ∷ until_repeated (x ∷ met) (steps_from simplices k n (next_at simplices k x))
     → ((u : ℕ) → next_at simplices k x ≡ Some u → Contains (x ∷ met) u) → Walked simplices k met x order
@@ -249,7 +243,7 @@ more_steps simplices k n met x u order new next e w = record {
   ];
 }
 
--- the triangles that were met, none of them twice, are at k, and there are steps for all others
+-- the triangles that were met, none_contained of them twice, are at k, and there are steps for all others
 pub record StepsLeft (simplices : List (List ℕ)) (k : ℕ) (met : List ℕ) (x n : ℕ) : Type 0 where
   pub at : Contains (triangles_at simplices k) x
   pub new : Contains met x → ⊥
@@ -266,7 +260,8 @@ some_left simplices k met x n s =
     ]) in
     omega (arith, l, s.left)
 
-left_after : (simplices : List (List ℕ)) (k : ℕ) (met : List ℕ) (x u n : ℕ) → StepsLeft simplices k met x (suc n) → next_at simplices k x ≡ Some u → (Contains (x ∷ met) u → ⊥)
+left_after : (simplices : List (List ℕ)) (k : ℕ) (met : List ℕ) (x u n : ℕ) → StepsLeft simplices k met x (suc n) → next_at simplices k x ≡ Some u
+    → (Contains (x ∷ met) u → ⊥)
     → StepsLeft simplices k (x ∷ met) u n
 left_after simplices k met x u n s next new = record {
   at = next_in simplices k x u next;
@@ -279,7 +274,8 @@ left_after simplices k met x u n s next new = record {
   left = omega (arith, s.left);
 }
 
-steps_walk : (simplices : List (List ℕ)) (k : ℕ) (met : List ℕ) (x n : ℕ) → StepsLeft simplices k met x n → Walked simplices k met x (until_repeated met (steps_from simplices k n (Some x)))
+steps_walk : (simplices : List (List ℕ)) (k : ℕ) (met : List ℕ) (x n : ℕ) → StepsLeft simplices k met x n
+    → Walked simplices k met x (until_repeated met (steps_from simplices k n (Some x)))
 steps_walk simplices k met x zero s = absurd (omega (arith, some_left simplices k met x 0 s))
 steps_walk simplices k met x (suc n) s =
     next_cases (next_at simplices k x) refl (λ u new e. steps_walk simplices k (x ∷ met) u n (left_after simplices k met x u n s e new))
@@ -291,30 +287,40 @@ steps_walk simplices k met x (suc n) s =
     once = steps_once simplices k n met x s.new
 
     some_case : (u : ℕ) → next_at simplices k x ≡ Some u → (has (x ∷ met) u ≡ true) ⊎ (has (x ∷ met) u ≡ false)
-        → ((u : ℕ) → (Contains (x ∷ met) u → ⊥) → next_at simplices k x ≡ Some u → Walked simplices k (x ∷ met) u (until_repeated (x ∷ met) (steps_from simplices k n (Some u))))
+        →
+        ((u : ℕ) → (Contains (x ∷ met) u → ⊥) → next_at simplices k x ≡ Some u
+        → Walked simplices k (x ∷ met) u (until_repeated (x ∷ met) (steps_from simplices k n (Some u))))
         → Walked simplices k met x order
     some_case u e (inl was) more =
-        last_step simplices k n met x order s.new once (λ w f. subst (λ (z : ℕ). Contains (x ∷ met) z) (same_some u w (sym e ∙ f)) ((has-Decides (x ∷ met) u).0 was))
+        last_step simplices k n met x order s.new once
+        (λ w f. subst (λ (z : ℕ). Contains (x ∷ met) z) (same_Some u w (sym e ∙ f)) ((has-Decides (x ∷ met) u).0 was))
     some_case u e (inr not_was) more =
         let new : Contains (x ∷ met) u → ⊥ = λ c. false≢true (sym not_was ∙ (has-Decides (x ∷ met) u).1 c) in
         more_steps simplices k n met x u order s.new e once (more u new e)
 
     next_cases : (o : Option ℕ) → next_at simplices k x ≡ o
-        → ((u : ℕ) → (Contains (x ∷ met) u → ⊥) → next_at simplices k x ≡ Some u → Walked simplices k (x ∷ met) u (until_repeated (x ∷ met) (steps_from simplices k n (Some u))))
+        →
+        ((u : ℕ) → (Contains (x ∷ met) u → ⊥) → next_at simplices k x ≡ Some u
+        → Walked simplices k (x ∷ met) u (until_repeated (x ∷ met) (steps_from simplices k n (Some u))))
         → Walked simplices k met x order
     next_cases None e more = last_step simplices k n met x order s.new once (λ u f. absurd (let no : None ≡ Some u = sym e ∙ f in cc))
-    next_cases (Some u) e more = some_case u e (test_cases (has (x ∷ met) u)) more
+    next_cases (Some u) e more = some_case u e (cases_Bool (has (x ∷ met) u)) more
 
 -- what the steps from a triangle at k give is a walk
 pub walk_from-is : (simplices : List (List ℕ)) (k t : ℕ) → Contains (triangles_at simplices k) t → IsWalk simplices k t (walk_from simplices k (Some t))
 walk_from-is simplices k t at =
-    let w = steps_walk simplices k [] t (length (triangles_at simplices k)) (record { at = at; new = none t; once = refl; part = λ z c. absurd (none z c); left = omega arith }) in
+    let w =
+    steps_walk simplices k [] t (length (triangles_at simplices k))
+    (record { at = at; new = none_contained t; once = refl; part = λ z c. absurd (none_contained z c); left = omega arith }) in
     record {
       begins = (w.further, w.is);
-      goes_on = subst (λ (l : List ℕ). AllAdjacentBelow (λ t u. next_at simplices k t ≡ Some u) l (length l)) (sym w.is) (chain_steps simplices k t w.further w.chain);
+      goes_on =
+          subst (λ (l : List ℕ). AllAdjacentBelow (λ t u. next_at simplices k t ≡ Some u) l (length l)) (sym w.is)
+          (chain_steps simplices k t w.further w.chain);
       once = subst (λ (l : List ℕ). is_distinct l ≡ true) (sym w.is) w.once;
-      ends = subst (λ (l : List ℕ). (u : ℕ) → next_after simplices k l ≡ Some u → Contains l u) (sym w.is) (λ u f. elim (w.ends u f) as (λ _. Contains (t ∷ w.further) u) [
-        | inl m ↦ absurd (none u m)
-        | inr m ↦ m
-      ]);
+      ends = subst (λ (l : List ℕ). (u : ℕ) → next_after simplices k l ≡ Some u → Contains l u) (sym w.is)
+          (λ u f. elim (w.ends u f) as (λ _. Contains (t ∷ w.further) u) [
+            | inl m ↦ absurd (none_contained u m)
+            | inr m ↦ m
+          ]);
     }

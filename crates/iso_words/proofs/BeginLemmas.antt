@@ -10,7 +10,7 @@ use Rattle.std.proofs.lemmas.List.Sums.{AllPass-from_list_all}
 use Rattle.iso_model.specs.declared.Kind.{Kind}
 use Rattle.iso_model.specs.declared.Kind.TheVariants.{Cube, Simplex, Pyramid}
 use Rattle.iso_model.specs.Cells.{HasDimension}
-use Rattle.iso_model.specs.Commands.{value_for, generate_command, check_command, extract_command, has_key_of, BeginRight}
+use Rattle.iso_formats.specs.Commands.{value_for, generate_command, check_command, extract_command, has_key_of, BeginRight}
 use Rattle.iso_words.specs.declared.keys.CommandName.{CommandName}
 use Rattle.iso_words.specs.declared.keys.CommandName.TheVariants.{Generate, Check, Extract}
 use Rattle.iso_words.specs.declared.given.Given.{Given}

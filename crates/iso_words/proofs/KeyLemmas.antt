@@ -4,8 +4,8 @@ use Rattle.std.specs.List.{AllByRecursion, list_any, before_first, after_first}
 use Rattle.std.specs.Prelude.{nat_eq}
 use Rattle.std.proofs.lemmas.Bool.{and_parts}
 use Rattle.std.proofs.lemmas.Slice.Eq.{bytes_eq-Decides}
-use Rattle.iso_model.specs.Orders.{has, same_list}
-use Rattle.iso_model.specs.Commands.{value_for, has_key_of}
+use Rattle.lists.specs.Orders.{has, same_list}
+use Rattle.iso_formats.specs.Commands.{value_for, has_key_of}
 use Rattle.iso_words.specs.declared.keys.Key.{Key}
 use Rattle.iso_words.specs.declared.keys.Key.TheVariants.{Kind, Dim, Table, Grid, Iso}
 use Rattle.iso_words.specs.declared.keys.CommandName.{CommandName}
@@ -31,7 +31,8 @@ pub value_for-other : (key other word v : List ℕ) → value_for key word ≡ S
 value_for-other key other word v e apart =
     let p = value_for-some key word v e in
     let apart' : same_list (before_first (nat_eq 61) word) other ≡ false = ap (λ (b : List ℕ). same_list b other) p.1 ∙ apart in
-    let t : (has word 61 && same_list (before_first (nat_eq 61) word) other) ≡ false = ap (λ (b : Bool). has word 61 && b) apart' ∙ (elim (has word 61) as (λ (b : Bool). (b && false) ≡ false) [ true ↦ refl | false ↦ refl ]) in
+    let t : (has word 61 && same_list (before_first (nat_eq 61) word) other) ≡ false =
+        ap (λ (b : Bool). has word 61 && b) apart' ∙ (elim (has word 61) as (λ (b : Bool). (b && false) ≡ false) [ true ↦ refl | false ↦ refl ]) in
     ap (λ (b : Bool). cond b (Some (after_first (nat_eq 61) word)) None) t
 
 -- it has a key of a list just where its key is one of them
@@ -40,7 +41,8 @@ has_key_of-some keys key word v e =
     let p = value_for-some key word v e in
     ap (λ (b : List ℕ). has word 61 && list_any (same_list b) keys) p.1 ∙ ap (λ (t : Bool). t && list_any (same_list key) keys) p.0
 
-pub has_key_of-key : (name : CommandName) (key : Key) (word v : List ℕ) → value_for (key_text key) word ≡ Some v → has_key_of (keys_of name) word ≡ has_key name key
+pub has_key_of-key : (name : CommandName) (key : Key) (word v : List ℕ) → value_for (key_text key) word ≡ Some v
+    → has_key_of (keys_of name) word ≡ has_key name key
 has_key_of-key name key word v e = has_key_of-some (keys_of name) (key_text key) word v e ∙ known name key
   where
     known : (n : CommandName) (k : Key) → list_any (same_list (key_text k)) (keys_of n) ≡ has_key n k

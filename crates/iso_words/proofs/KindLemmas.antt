@@ -2,11 +2,11 @@
 use Rattle.std.proofs.Common.{◌≡◌, ℕ, ◌≤◌, List, Option, Some, None, refl, sym, ◌∙◌, ap, arith}
 use Rattle.std.specs.Prelude.{pos, codes}
 use Rattle.std.proofs.lemmas.Bool.{true≢false}
-use Rattle.iso_model.specs.Orders.{same_list}
+use Rattle.lists.specs.Orders.{same_list}
 use Rattle.iso_model.specs.declared.Kind.{Kind}
 use Rattle.iso_model.specs.declared.Kind.TheVariants.{Cube, Simplex, Pyramid}
 use Rattle.iso_model.specs.Cells.{HasDimension}
-use Rattle.iso_model.specs.Commands.{kind_name}
+use Rattle.iso_formats.specs.Commands.{kind_name}
 use Rattle.iso_words.specs.Given.{IsKind, IsDimension, IsKindBeside, IsDimensionBeside, Fit, Stood}
 
 pub kind_name-one : (k l : Kind) → kind_name k ≡ kind_name l → k ≡ l
@@ -45,11 +45,13 @@ pub Stood-from_kind_beside : (dim : Option ℕ) (o : Option Kind) (values : List
 Stood-from_kind_beside dim None values s = (s, tt)
 Stood-from_kind_beside dim (Some k) values s = ((s.0, s.1, s.2.0), s.2.1)
 
-pub Stood-dimension_beside : (kind : Option Kind) (o : Option ℕ) (values : List (List ℕ)) → Stood IsDimension o values → Fit kind o → Stood (IsDimensionBeside kind) o values
+pub Stood-dimension_beside : (kind : Option Kind) (o : Option ℕ) (values : List (List ℕ)) → Stood IsDimension o values → Fit kind o
+    → Stood (IsDimensionBeside kind) o values
 Stood-dimension_beside kind None values s f = s
 Stood-dimension_beside kind (Some d) values s f = (s.0, s.1, (s.2, f))
 
-pub Stood-from_dimension_beside : (kind : Option Kind) (o : Option ℕ) (values : List (List ℕ)) → Stood (IsDimensionBeside kind) o values → Stood IsDimension o values × Fit kind o
+pub Stood-from_dimension_beside : (kind : Option Kind) (o : Option ℕ) (values : List (List ℕ)) → Stood (IsDimensionBeside kind) o values
+    → Stood IsDimension o values × Fit kind o
 Stood-from_dimension_beside None None values s = (s, tt)
 Stood-from_dimension_beside (Some k) None values s = (s, tt)
 Stood-from_dimension_beside kind (Some d) values s = ((s.0, s.1, s.2.0), s.2.1)

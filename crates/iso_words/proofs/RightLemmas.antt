@@ -7,7 +7,8 @@ use Rattle.std.proofs.lemmas.Bool.{false≢true, and_parts}
 use Rattle.std.proofs.lemmas.List.Sums.{list_all-from_AllPass}
 use Rattle.iso_model.specs.declared.Kind.{Kind as CellKind}
 use Rattle.iso_model.specs.Cells.{HasDimension}
-use Rattle.iso_model.specs.Commands.{Command as Asked, generate_command, check_command, extract_command, demo_command, has_key_of, kind_name, Say, SayGenerate, SayCheck, SayExtract, AreRight, BeginRight}
+use Rattle.iso_formats.specs.Commands.{Command as Asked, generate_command, check_command, extract_command, demo_command, has_key_of, kind_name, Say}
+use Rattle.iso_formats.specs.Commands.{SayGenerate, SayCheck, SayExtract, AreRight, BeginRight}
 use Rattle.iso_words.specs.declared.keys.Key.{Key}
 use Rattle.iso_words.specs.declared.keys.Key.TheVariants.{Kind, Dim, Table, Grid, Iso}
 use Rattle.iso_words.specs.declared.keys.CommandName.{CommandName}
@@ -18,6 +19,7 @@ use Rattle.iso_words.specs.Keys.{name_text, keys_of, has_key}
 use Rattle.iso_words.specs.Given.{IsKind, IsDimension, IsFile, IsIsovalue, Fit, values_of, Stood, Gave}
 use Rattle.iso_words.proofs.NumberLemmas.{isovalue_fits}
 use Rattle.iso_words.proofs.KindLemmas.{HasDimension-limits}
+use Rattle.lists.proofs.MemberLaws.{same_head}
 
 -- a kind and a dimension stand once each, and go together
 abbrev pub StandTogether : List (List ℕ) → Type 0
@@ -37,9 +39,6 @@ StandsOnce Iso further = (n : ℤ) × Stood IsIsovalue (Some n) (values_of (code
 pub record HasKeys (name : CommandName) (further : List (List ℕ)) : Type 0 where
   pub keyed : AllPass (has_key_of (keys_of name)) further
   pub once : (key : Key) → has_key name key ≡ true → StandsOnce key further
-
-head_same : (x y : List ℕ) (xs ys : List (List ℕ)) → x ∷ xs ≡ y ∷ ys → x ≡ y
-head_same x y xs ys e = cc
 
 pub HasKeys-from_right : (name : CommandName) (further : List (List ℕ)) → AreRight is_built (name_text name ∷ further) → HasKeys name further
 HasKeys-from_right name further right = go name right.0 right.1 right.2
@@ -72,16 +71,16 @@ HasKeys-from_right name further right = go name right.0 right.1 right.2
 
     go : (n : CommandName) (c : Asked) → IsTrue (is_built c) → Say (name_text n ∷ further) c → HasKeys n further
     go Generate (generate_command kind d) b s = record { keyed = s.are_for.keyed; once = generated kind d s }
-    go Generate (check_command table) b s = let e = head_same _ _ _ _ s.are_for.named.1 in cc
-    go Generate (extract_command table grid iso) b s = let e = head_same _ _ _ _ s.are_for.named.1 in cc
+    go Generate (check_command table) b s = let e = same_head _ _ _ _ s.are_for.named.1 in cc
+    go Generate (extract_command table grid iso) b s = let e = same_head _ _ _ _ s.are_for.named.1 in cc
     go Generate (demo_command kind d size seed) b s = absurd (false≢true b)
     go Check (check_command table) b s = record { keyed = s.are_for.keyed; once = checked table s }
-    go Check (extract_command table grid iso) b s = let e = head_same _ _ _ _ s.are_for.named.1 in cc
-    go Check (generate_command kind d) b s = let e = head_same _ _ _ _ s.are_for.named.1 in cc
+    go Check (extract_command table grid iso) b s = let e = same_head _ _ _ _ s.are_for.named.1 in cc
+    go Check (generate_command kind d) b s = let e = same_head _ _ _ _ s.are_for.named.1 in cc
     go Check (demo_command kind d size seed) b s = absurd (false≢true b)
-    go Extract (check_command table) b s = let e = head_same _ _ _ _ s.are_for.named.1 in cc
+    go Extract (check_command table) b s = let e = same_head _ _ _ _ s.are_for.named.1 in cc
     go Extract (extract_command table grid iso) b s = record { keyed = s.are_for.keyed; once = extracted table grid iso s }
-    go Extract (generate_command kind d) b s = let e = head_same _ _ _ _ s.are_for.named.1 in cc
+    go Extract (generate_command kind d) b s = let e = same_head _ _ _ _ s.are_for.named.1 in cc
     go Extract (demo_command kind d size seed) b s = absurd (false≢true b)
 
 -- what is said, where each key stood

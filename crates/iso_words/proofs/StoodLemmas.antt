@@ -5,13 +5,14 @@ use Rattle.std.specs.List.{cons_option}
 use Rattle.std.proofs.lemmas.Bool.{false≢true, true≢false}
 use Rattle.std.proofs.lemmas.List.{append-nil}
 use Rattle.std.proofs.lemmas.List.Elements.{filter_map-append}
-use Rattle.iso_model.specs.Commands.{value_for}
+use Rattle.iso_formats.specs.Commands.{value_for}
 use Rattle.iso_words.specs.Given.{values_of, Stood}
 
 pub values_of-append : (key : List ℕ) (xs ys : List (List ℕ)) → values_of key (xs ++ ys) ≡ values_of key xs ++ values_of key ys
 values_of-append key xs ys = filter_map-append (value_for key) xs ys
 
-pub values_of-some : (key : List ℕ) (xs : List (List ℕ)) (word v : List ℕ) → value_for key word ≡ Some v → values_of key (xs ++ word ∷ []) ≡ values_of key xs ++ v ∷ []
+pub values_of-some : (key : List ℕ) (xs : List (List ℕ)) (word v : List ℕ) → value_for key word ≡ Some v
+    → values_of key (xs ++ word ∷ []) ≡ values_of key xs ++ v ∷ []
 values_of-some key xs word v e = values_of-append key xs (word ∷ []) ∙ ap (λ (o : Option (List ℕ)). values_of key xs ++ cons_option o []) e
 
 pub values_of-none : (key : List ℕ) (xs : List (List ℕ)) (word : List ℕ) → value_for key word ≡ None → values_of key (xs ++ word ∷ []) ≡ values_of key xs ++ []
@@ -29,7 +30,8 @@ Stood-first P v key xs word text e p h = (text, values_of-some key xs word text 
 
 goes_on : (key : List ℕ) (xs : List (List ℕ)) (word text : List ℕ) (more : List (List ℕ)) → value_for key word ≡ Some text
     → values_of key ((xs ++ word ∷ []) ++ more) ≡ (values_of key xs ++ text ∷ []) ++ values_of key more
-goes_on key xs word text more e = values_of-append key (xs ++ word ∷ []) more ∙ ap (λ (vs : List (List ℕ)). vs ++ values_of key more) (values_of-some key xs word text e)
+goes_on key xs word text more e =
+    values_of-append key (xs ++ word ∷ []) more ∙ ap (λ (vs : List (List ℕ)). vs ++ values_of key more) (values_of-some key xs word text e)
 
 two_values : (a b x : List ℕ) (vs : List (List ℕ)) → a ∷ b ∷ vs ≡ x ∷ [] → ⊥
 two_values a b x vs e = cc
@@ -55,7 +57,9 @@ never_stands P (Some o) new key xs word text e stood t read more v (x, only, p) 
     two_values _ _ x _ (sym (goes_on key xs word text more e ∙ ap (λ (vs : List (List ℕ)). (vs ++ text ∷ []) ++ values_of key more) stood.1) ∙ only)
 never_stands P None (Some n) key xs word text e stood t read more v s = true≢false t
 never_stands P None None key xs word text e stood t read more v (x, only, p) =
-    let same : text ≡ x = first_value text x _ (sym (goes_on key xs word text more e ∙ ap (λ (vs : List (List ℕ)). (vs ++ text ∷ []) ++ values_of key more) stood) ∙ only) in
+    let same : text ≡ x =
+        first_value text x _
+            (sym (goes_on key xs word text more e ∙ ap (λ (vs : List (List ℕ)). (vs ++ text ∷ []) ++ values_of key more) stood) ∙ only) in
     read v (subst (λ (u : List ℕ). P u v) (sym same) p)
 
 -- the value of the first word with the key stands

@@ -4,7 +4,7 @@ use Rattle.std.specs.Prelude.{ℤ, codes}
 use Rattle.std.specs.Option.{is_some, option_copied, MatchOption}
 use Rattle.iso_model.specs.declared.Kind.{Kind as CellKind}
 use Rattle.iso_model.specs.Cells.{HasDimension}
-use Rattle.iso_model.specs.Commands.{value_for, BeginRight}
+use Rattle.iso_formats.specs.Commands.{value_for, BeginRight}
 use Rattle.iso_words.specs.declared.keys.Key.{Key}
 use Rattle.iso_words.specs.declared.keys.Key.TheVariants.{Kind, Dim, Iso}
 use Rattle.iso_words.specs.declared.keys.CommandName.{CommandName}
@@ -12,7 +12,8 @@ use Rattle.iso_words.specs.Built.{is_built}
 use Rattle.iso_words.specs.Keys.{key_text, name_text, has_key}
 use Rattle.iso_words.specs.Given.{IsKind, IsDimension, IsFile, IsIsovalue, IsKindBeside, IsDimensionBeside, Fit, values_of, Stood}
 use Rattle.iso_words.proofs.StoodLemmas.{never_stands, first_stands, Stood-same}
-use Rattle.iso_words.proofs.KindLemmas.{IsKind-one, IsDimension-one, Stood-kind_beside, Stood-from_kind_beside, Stood-dimension_beside, Stood-from_dimension_beside}
+use Rattle.iso_words.proofs.KindLemmas.{IsKind-one, IsDimension-one, Stood-kind_beside, Stood-from_kind_beside, Stood-dimension_beside}
+use Rattle.iso_words.proofs.KindLemmas.{Stood-from_dimension_beside}
 use Rattle.iso_words.proofs.RightLemmas.{StandsOnce, not_begin-never}
 
 -- ---- file names
@@ -38,14 +39,16 @@ first_file key further word text old new e stood read t =
     first_stands IsFile (option_copied old) (option_copied new) key further word text e stood (both_copied old new ∙ t) (file_read text new read)
 
 -- and where one stood, or the name is empty
-pub never_file : (name : CommandName) (key : Key) → ((further : List (List ℕ)) → StandsOnce key further → (file : List ℕ) × Stood IsFile (Some file) (values_of (key_text key) further))
+pub never_file : (name : CommandName) (key : Key)
+    → ((further : List (List ℕ)) → StandsOnce key further → (file : List ℕ) × Stood IsFile (Some file) (values_of (key_text key) further))
     → (further : List (List ℕ)) (word text : List ℕ) (old new : Option (Bor (List ℕ)))
     → has_key name key ≡ true → value_for (key_text key) word ≡ Some text → Stood IsFile (option_copied old) (values_of (key_text key) further)
     → MatchOption new (text ≡ []) (λ file. IsFile text file.now) → (not (is_some old) && is_some new) ≡ false
     → BeginRight is_built (name_text name ∷ (further ++ word ∷ [])) → ⊥
 never_file name key is_file further word text old new has e stood read t =
     not_begin-never name key (further ++ word ∷ []) has (λ more s. let p = is_file ((further ++ word ∷ []) ++ more) s in
-    never_stands IsFile (option_copied old) (option_copied new) (key_text key) further word text e stood (both_copied old new ∙ t) (file_read text new read) more p.0 p.1)
+    never_stands IsFile (option_copied old) (option_copied new) (key_text key) further word text e stood (both_copied old new ∙ t)
+        (file_read text new read) more p.0 p.1)
 
 -- ---- isovalues
 

@@ -1,5 +1,6 @@
 -- The first wrong word.
-use Rattle.std.proofs.Common.{◌≡◌, ◌≢◌, ℕ, ◌+◌, ◌-◌, ◌<◌, ◌≤◌, Bool, true, false, cond, List, [], ◌∷◌, ◌++◌, length, take, drop, get_or, suc, take_all, ◌⊎◌, None, refl, sym, ◌∙◌, ap, subst, arith, inl, inr}
+use Rattle.std.proofs.Common.{◌≡◌, ◌≢◌, ℕ, ◌+◌, ◌-◌, ◌<◌, ◌≤◌, Bool, true, false, cond, List, [], ◌∷◌, ◌++◌, length, take, drop, get_or, suc}
+use Rattle.std.proofs.Common.{take_all, ◌⊎◌, None, refl, sym, ◌∙◌, ap, subst, arith, inl, inr}
 use Rattle.std.specs.Prelude.{ℤ, pos, codes, IsTrue}
 use Rattle.std.specs.Option.{is_some}
 use Rattle.std.specs.String.{string_bytes}
@@ -7,8 +8,9 @@ use Rattle.std.specs.declared.string.String.{String}
 use Rattle.std.proofs.lemmas.Bool.{false≢true, cases_order}
 use Rattle.std.proofs.lemmas.List.{take_more, take-append-drop, take-take, append_assoc, length-map, get_or-map}
 use Rattle.std.proofs.lemmas.List.Elements.{All-nil}
-use Rattle.iso_model.specs.Commands.{Command as Asked, generate_command, check_command, extract_command, demo_command, kind_name, Gives, GivesNumber, Say, AreRight, BeginRight, IsWrongWord}
-use Rattle.iso_model.specs.Commands.{has_key_of}
+use Rattle.iso_formats.specs.Commands.{Command as Asked, generate_command, check_command, extract_command, demo_command, kind_name, Gives}
+use Rattle.iso_formats.specs.Commands.{GivesNumber, Say, AreRight, BeginRight, IsWrongWord}
+use Rattle.iso_formats.specs.Commands.{has_key_of}
 use Rattle.iso_words.specs.declared.Command.{Command}
 use Rattle.iso_words.specs.declared.Command.TheVariants.{Generate as generate, Check as check, Extract as extract}
 use Rattle.iso_words.specs.declared.keys.CommandName.{CommandName}
@@ -19,11 +21,9 @@ use Rattle.iso_words.specs.Keys.{name_text, keys_of}
 use Rattle.iso_words.specs.Given.{Gave, given_count}
 use Rattle.iso_words.proofs.KindLemmas.{kind_name-one, pos-one}
 use Rattle.iso_words.proofs.BeginLemmas.{BeginRight-given}
+use Rattle.lists.proofs.MemberLaws.{same_head}
 
 -- ---- words say at most one command
-
-head_same : (x y : List ℕ) (xs ys : List (List ℕ)) → x ∷ xs ≡ y ∷ ys → x ≡ y
-head_same x y xs ys e = cc
 
 one_value : (words : List (List ℕ)) (key v w : List ℕ) → Gives words key v → Gives words key w → v ≡ w
 one_value words key v w e f = let same = sym e ∙ f in cc
@@ -41,21 +41,21 @@ Say-one words (extract_command table grid iso) (extract_command table' grid' iso
     let same_iso = one_number words (codes "iso") iso iso' s.iso_is t.iso_is in
     cc
 Say-one words (check_command table) (extract_command table' grid iso) b e s t =
-    let same = head_same _ _ _ _ (sym s.are_for.named.1 ∙ t.are_for.named.1) in cc
+    let same = same_head _ _ _ _ (sym s.are_for.named.1 ∙ t.are_for.named.1) in cc
 Say-one words (extract_command table grid iso) (check_command table') b e s t =
-    let same = head_same _ _ _ _ (sym s.are_for.named.1 ∙ t.are_for.named.1) in cc
+    let same = same_head _ _ _ _ (sym s.are_for.named.1 ∙ t.are_for.named.1) in cc
 Say-one words (generate_command kind d) (generate_command kind' d') b e s t =
     let same_kind = kind_name-one kind kind' (one_value words (codes "kind") (kind_name kind) (kind_name kind') s.kind_is t.kind_is) in
     let same_dim = pos-one d d' (one_number words (codes "dim") (pos d) (pos d') s.dim_is t.dim_is) in
     cc
 Say-one words (generate_command kind d) (check_command table) b e s t =
-    let same = head_same _ _ _ _ (sym s.are_for.named.1 ∙ t.are_for.named.1) in cc
+    let same = same_head _ _ _ _ (sym s.are_for.named.1 ∙ t.are_for.named.1) in cc
 Say-one words (generate_command kind d) (extract_command table grid iso) b e s t =
-    let same = head_same _ _ _ _ (sym s.are_for.named.1 ∙ t.are_for.named.1) in cc
+    let same = same_head _ _ _ _ (sym s.are_for.named.1 ∙ t.are_for.named.1) in cc
 Say-one words (check_command table) (generate_command kind d) b e s t =
-    let same = head_same _ _ _ _ (sym s.are_for.named.1 ∙ t.are_for.named.1) in cc
+    let same = same_head _ _ _ _ (sym s.are_for.named.1 ∙ t.are_for.named.1) in cc
 Say-one words (extract_command table grid iso) (generate_command kind d) b e s t =
-    let same = head_same _ _ _ _ (sym s.are_for.named.1 ∙ t.are_for.named.1) in cc
+    let same = same_head _ _ _ _ (sym s.are_for.named.1 ∙ t.are_for.named.1) in cc
 Say-one words (demo_command kind d size seed) c b e s t = absurd (false≢true b)
 Say-one words c (demo_command kind d size seed) b e s t = absurd (false≢true e)
 
@@ -66,13 +66,24 @@ nothing = record { kind = None; dim = None; table = None; grid = None; iso = Non
 
 begin_nothing : BeginRight is_built []
 begin_nothing =
-    let begun = BeginRight-given Check [] nothing (record { keyed = All-nil (λ w. has_key_of (keys_of Check) w ≡ true); kind = refl; dim = refl; fits = tt; table = refl; grid = refl; iso = refl }) in
+    let begun =
+        BeginRight-given Check [] nothing
+            (record
+                 {
+                   keyed = All-nil (λ w. has_key_of (keys_of Check) w ≡ true);
+                   kind = refl;
+                   dim = refl;
+                   fits = tt;
+                   table = refl;
+                   grid = refl;
+                   iso = refl
+                 }) in
     (codes "check" ∷ begun.0, begun.1)
 
 named : (word : List ℕ) (rest : List (List ℕ)) (c : Asked) → IsTrue (is_built c) → Say (word ∷ rest) c → (name : CommandName) × (word ≡ name_text name)
-named word rest (generate_command kind d) b s = (Generate, head_same _ _ _ _ s.are_for.named.1)
-named word rest (check_command table) b s = (Check, head_same _ _ _ _ s.are_for.named.1)
-named word rest (extract_command table grid iso) b s = (Extract, head_same _ _ _ _ s.are_for.named.1)
+named word rest (generate_command kind d) b s = (Generate, same_head _ _ _ _ s.are_for.named.1)
+named word rest (check_command table) b s = (Check, same_head _ _ _ _ s.are_for.named.1)
+named word rest (extract_command table grid iso) b s = (Extract, same_head _ _ _ _ s.are_for.named.1)
 named word rest (demo_command kind d size seed) b s = absurd (false≢true b)
 
 none_right : (c : Asked) → IsTrue (is_built c) → Say [] c → ⊥
@@ -193,4 +204,13 @@ at_most_one true = omega arith
 at_most_one false = omega arith
 
 pub few_given : (given : Given) → given_count given ≤ 5
-few_given given = omega (arith, at_most_one (is_some given.kind), at_most_one (is_some given.dim), at_most_one (is_some given.table), at_most_one (is_some given.grid), at_most_one (is_some given.iso))
+few_given given =
+    omega
+        (
+          arith,
+          at_most_one (is_some given.kind),
+          at_most_one (is_some given.dim),
+          at_most_one (is_some given.table),
+          at_most_one (is_some given.grid),
+          at_most_one (is_some given.iso)
+        )

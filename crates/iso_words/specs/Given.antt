@@ -4,7 +4,7 @@ use Rattle.std.specs.List.{AllPass}
 use Rattle.std.specs.Option.{option_copied}
 use Rattle.iso_model.specs.declared.Kind.{Kind}
 use Rattle.iso_model.specs.Cells.{HasDimension}
-use Rattle.iso_model.specs.Commands.{value_for, has_key_of, kind_name, IsNumber, iso_limit}
+use Rattle.iso_formats.specs.Commands.{value_for, has_key_of, kind_name, IsNumber, iso_limit}
 use Rattle.iso_words.specs.Keys.{keys_of}
 use Rattle.iso_words.specs.declared.keys.CommandName.{CommandName}
 use Rattle.iso_words.specs.declared.given.Given.{Given}
@@ -60,4 +60,6 @@ pub record Gave (name : CommandName) (further : List (List ℕ)) (given : Given)
 
 -- how many values were given
 abbrev pub given_count : Given → ℕ
-given_count given = (if is_some given.kind then 1 else 0) + (if is_some given.dim then 1 else 0) + (if is_some given.table then 1 else 0) + (if is_some given.grid then 1 else 0) + (if is_some given.iso then 1 else 0)
+given_count given =
+    (if is_some given.kind then 1 else 0) + (if is_some given.dim then 1 else 0) + (if is_some given.table then 1 else 0)
+        + (if is_some given.grid then 1 else 0) + (if is_some given.iso then 1 else 0)

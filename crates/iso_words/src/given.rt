@@ -19,7 +19,7 @@ pub(crate) struct Given<'a> {
 }
 
 impl<'a> Given<'a> {
-    ghost use Rattle.iso_model.specs.Commands.{BeginRight, AreRight, Say};
+    ghost use Rattle.iso_formats.specs.Commands.{BeginRight, AreRight, Say};
     ghost use Rattle.iso_words.specs.Built.{is_built, asked};
     ghost use Rattle.iso_words.specs.Keys.{name_text};
     ghost use Rattle.iso_words.specs.Given.{Gave, given_count};

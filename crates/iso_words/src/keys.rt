@@ -51,7 +51,7 @@ pub(crate) enum Key {
 
 impl Key {
     ghost use Rattle.std.specs.Prelude.{◌≡◌, ◌≢◌, Some, None, MatchOption};
-    ghost use Rattle.iso_model.specs.Commands.{value_for};
+    ghost use Rattle.iso_formats.specs.Commands.{value_for};
     ghost use Rattle.iso_words.specs.Keys.{key_text};
 
     // The key that a text names.

@@ -15,7 +15,7 @@
 #![tactic(auto)]
 
 ghost use Rattle.std.specs.Prelude.{◌≡◌, ℕ, IsTrue, IfOk, IfErr, IsOkAnd, IsErrAnd};
-ghost use Rattle.iso_model.specs.Commands.{Command as Asked, Say, IsWrongWord};
+ghost use Rattle.iso_formats.specs.Commands.{Command as Asked, Say, IsWrongWord};
 ghost use Rattle.iso_words.specs.Built.{is_built, texts, asked};
 
 mod given;

@@ -1,9 +1,11 @@
 -- What is held of the canonical cell.
 use Rattle.std.specs.Prelude.{◌≡◌, ℕ, ◌<◌, ℤ, pos, List, [], map, slice_index, slice_index_or}
 use Rattle.iso_model.specs.declared.Kind.{Kind}
-use Rattle.iso_model.specs.Cells.{HasDimension, is_set, corner_count, edge_count, facet_count, corner_point, edge_ends, edge_midpoint, edge_in_facet}
+use Rattle.iso_model.specs.Cells.{HasDimension, corner_count, edge_count, facet_count, corner_point, edge_ends, edge_midpoint, edge_in_facet}
+use Rattle.lists.specs.Bits.{is_set}
 
--- the number of edges and of facets of the canonical cell, the ends and midpoints of its edges, its corners, and the sets of the edges of its facets, each at the place of its number
+-- the number of edges and of facets of the canonical cell, the ends and midpoints of its edges, its corners, and the sets of the edges of its facets,
+-- each at the place of its number
 pub record AreFigures (kind : Kind) (d edges facets : ℕ) (ends : List (ℕ × ℕ)) (midpoints corners : List (List ℤ)) (sets : List ℕ) : Type 0 where
   pub fits : HasDimension kind d
   pub edges_are : edges ≡ edge_count kind d

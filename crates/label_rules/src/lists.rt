@@ -1,7 +1,8 @@
 //! Ends, midpoints, corners and facets of the canonical cell, as lists by their numbers.
 
 ghost use Rattle.std.specs.Prelude.{◌≡◌, ℕ, ◌<◌, ◌≤◌, [], map, pos, slice_index, slice_index_or};
-ghost use Rattle.iso_model.specs.Cells.{corner_point, edge_ends, edge_midpoint, edge_in_facet, is_set};
+ghost use Rattle.iso_model.specs.Cells.{corner_point, edge_ends, edge_midpoint, edge_in_facet};
+ghost use Rattle.lists.specs.Bits.{is_set};
 
 use cell_lattice::Cell;
 use small_turn::wide;

@@ -1,25 +1,31 @@
 -- The triangles at a vertex, arc by arc: those of the cells of one arc are joined, and a step stays on its arc.
-use Rattle.std.proofs.Common.{◌≡◌, ℕ, zero, suc, ◌+◌, ◌<◌, ◌≤◌, Bool, true, false, List, [], ◌∷◌, length, Option, Some, None, refl, ap, sym, ◌∙◌, subst, arith, inl, inr}
+use Rattle.std.proofs.Common.{◌≡◌, ℕ, zero, suc, ◌+◌, ◌<◌, ◌≤◌, Bool, true, false, List, [], ◌∷◌, length, Option, Some, None, refl, ap, sym, ◌∙◌}
+use Rattle.std.proofs.Common.{subst, arith, inl, inr}
 use Rattle.std.specs.Prelude.{◌≢◌, ◌⊎◌, map}
 use Rattle.std.proofs.lemmas.Bool.{cases_eq}
 use Rattle.std.proofs.lemmas.Slice.Eq.{bytes_eq-Decides}
-use Rattle.iso_model.specs.Orders.{sorted, is_distinct}
+use Rattle.lists.specs.Orders.{sorted, is_distinct}
 use Rattle.iso_model.specs.Placed.{placed_tuple}
-use Rattle.mesh_laws.proofs.Sorting.{bit, put_in_comm}
-use Rattle.mesh_laws.proofs.Members.{In, In-map, In-flat_map, from_any, from_count, count_some}
-use Rattle.mesh_laws.proofs.FaceSigns.{Each, Each-In, Each-from_In, Part, rest, after, Part-Each, left_out, is_face, is_signed_face, has_at_a_place, has_signed, left_out-Part, face_signs_at, from_distinct_test, and_left, and_right}
-use Rattle.mesh_laws.proofs.Taking.{In-sorted, from_In-sorted}
+use Rattle.mesh_laws.proofs.FaceSigns.{Part, rest, after, Part-Each, left_out, is_face, is_signed_face, has_at_a_place, has_signed, left_out-Part}
+use Rattle.mesh_laws.proofs.FaceSigns.{face_signs_at}
+use Rattle.mesh_laws.proofs.TakenMembers.{In-sorted, from_In-sorted}
 use Rattle.mesh_laws.proofs.FaceOf.{face_place}
 use Rattle.mesh_laws.proofs.SignedFaces.{has_face_is}
 use Rattle.glue_laws.proofs.Pieces.{Pieces, Has, AllIn, piece, placed_simplices, placed_count, Laws}
 use Rattle.glue_laws.proofs.SignCounts.{both_signs}
 use Rattle.glue_laws.proofs.OneFace.{LocalFace, the_face, over, at_end}
-use Rattle.glue_laws.proofs.FreeFacets.{face_across, few_placed, alone_is_free}
+use Rattle.glue_laws.proofs.FreePieces.{face_across, few_placed, alone_is_free}
 use Rattle.glue_laws.proofs.GluedFaces.{lengths, distinct, source}
 use Rattle.glue_laws.proofs.InOneCell.{Each-placed, In-placed}
 use Rattle.link_laws.proofs.Readings.{Reading, pair, leaving, leaves, enters, has_reading, other_is}
 use Rattle.link_laws.proofs.Links.{AreLinked, next, spokes, joined, one_reading}
 use Rattle.link_laws.proofs.Walks.{Joined, itself, on, back}
+use Rattle.lists.specs.Members.{In, Each}
+use Rattle.lists.proofs.Tests.{and_left, and_right}
+use Rattle.lists.proofs.MemberLaws.{In-map, from_any, In-flat_map, Each-In, Each-from_In}
+use Rattle.lists.proofs.Sorting.{bit, put_in_comm}
+use Rattle.lists.proofs.Counts.{count_some, from_count}
+use Rattle.lists.proofs.DistinctLists.{from_distinct_test}
 
 module _ (p : Pieces) where
   -- tuples of the cell c that have the edge e, each sharing with the next a further edge
@@ -86,9 +92,20 @@ part_with (a ∷ b ∷ c ∷ []) e x h (inr (inr (inr i))) j differ = absurd i
 part_with (a ∷ b ∷ c ∷ []) e x h i (inr (inr (inr j))) differ = absurd j
 
 -- both are members of the part, what holds of both holds of each of its members, and its image is the pair of their images
-pub pair_part : (l : List ℕ) (e x : ℕ) → (l ≡ e ∷ x ∷ []) ⊎ (l ≡ x ∷ e ∷ []) → In e l × In x l × ((D : ℕ → Type 0) → D e → D x → Each D l) × ((f : ℕ → ℕ) → sorted (map f l) ≡ pair (f e) (f x))
-pair_part l e x (inl s) = (subst (In e) (sym s) (inl refl), subst (In x) (sym s) (inr (inl refl)), (λ D a b. subst (Each D) (sym s) (a, (b, tt))), λ f. ap (λ (v : List ℕ). sorted (map f v)) s)
-pair_part l e x (inr s) = (subst (In e) (sym s) (inr (inl refl)), subst (In x) (sym s) (inl refl), (λ D a b. subst (Each D) (sym s) (b, (a, tt))), λ f. ap (λ (v : List ℕ). sorted (map f v)) s ∙ put_in_comm (f x) (f e) [])
+pub pair_part : (l : List ℕ) (e x : ℕ) → (l ≡ e ∷ x ∷ []) ⊎ (l ≡ x ∷ e ∷ [])
+    → In e l × In x l × ((D : ℕ → Type 0) → D e → D x → Each D l) × ((f : ℕ → ℕ) → sorted (map f l) ≡ pair (f e) (f x))
+pair_part l e x (inl s) = (
+  subst (In e) (sym s) (inl refl),
+  subst (In x) (sym s) (inr (inl refl)),
+  (λ D a b. subst (Each D) (sym s) (a, (b, tt))),
+  λ f. ap (λ (v : List ℕ). sorted (map f v)) s,
+)
+pair_part l e x (inr s) = (
+  subst (In e) (sym s) (inr (inl refl)),
+  subst (In x) (sym s) (inl refl),
+  (λ D a b. subst (Each D) (sym s) (b, (a, tt))),
+  λ f. ap (λ (v : List ℕ). sorted (map f v)) s ∙ put_in_comm (f x) (f e) [],
+)
 
 -- a member of a part
 Part-In : {l w : List ℕ} → Part l w → (x : ℕ) → In x l → In x w
@@ -99,7 +116,8 @@ module _ (p : Pieces) (laws : Laws p) (links : LinkLaws p) where
   few_any_case m face zero e = omega (arith, e)
   few_any_case m face (suc n) e =
       let r = from_count (has_signed m face) (placed_simplices p) (omega (arith, e)) in
-      let found : has_at_a_place face r.0 ≡ true = one_sign (has_at_a_place face r.0) (has_signed m face r.0) (has_signed (m + 1) face r.0) (face_signs_at m face r.0) r.2 in
+      let found : has_at_a_place face r.0 ≡ true =
+      one_sign (has_at_a_place face r.0) (has_signed m face r.0) (has_signed (m + 1) face r.0) (face_signs_at m face r.0) r.2 in
       let k = face_place face r.0 (has_face_is face r.0 ∙ found) in
       let x = source p laws r.0 k.0 r.1 k.1 in
       subst (λ (v : List ℕ). placed_count p m v ≤ 1) (sym x.1 ∙ k.2) (few_placed p laws x.0 m)
@@ -134,7 +152,8 @@ module _ (p : Pieces) (laws : Laws p) (links : LinkLaws p) where
   apart_places c e x i be bx differ same = differ (sym (laws.back c x i bx) ∙ ap (p.local c) same ∙ laws.back c e i be)
 
   -- two placed tuples that share the places of two edges are joined at the first
-  pub meet : (c d : ℕ) (t u : List ℕ) (k x : ℕ) → In c p.cells → In d p.cells → In t (p.entry c) → In u (p.entry d) → In k (at p c t) → In x (at p c t) → In k (at p d u) → In x (at p d u) → x ≢ k →
+  pub meet : (c d : ℕ) (t u : List ℕ) (k x : ℕ) → In c p.cells → In d p.cells → In t (p.entry c) → In u (p.entry d) → In k (at p c t)
+      → In x (at p c t) → In k (at p d u) → In x (at p d u) → x ≢ k →
       (a b r s : ℕ) → Reading k a b (at p c t) → Reading k r s (at p d u) → JoinedAt p k a r
   meet c d t u k x ic id it iu kt xt ku xu differ a b r s v w =
       joined k (placed_simplices p) are_linked (at p c t) (at p d u) a b r s x (In-piece c t ic it) (In-piece d u id iu) v w xt xu differ
@@ -160,14 +179,17 @@ module _ (p : Pieces) (laws : Laws p) (links : LinkLaws p) where
       let n = reading_at c m (p.place c e) i im (In-at c m e em) in
       let bx = Each-In (λ y. p.is_bipolar c y ≡ true) m (laws.tuples c m i im).bipolar x xm in
       then_joined (p.place c e) a n.0 r
-      (meet c c t m (p.place c e) (p.place c x) i i it im (In-at c t e et) (In-at c t x xt) (In-at c m e em) (In-at c m x xm) (apart_places c e x i be bx differ) a b n.0 n.1 v n.2)
+      (meet c c t m (p.place c e) (p.place c x) i i it im (In-at c t e et) (In-at c t x xt) (In-at c m e em) (In-at c m x xm)
+      (apart_places c e x i be bx differ) a b n.0 n.1 v n.2)
       (chain_joined c e i be m u more im em n.0 n.1 r s n.2 w)
 
   -- a number of a placed tuple is the place of one of its edges
   pub edge_of : (c k : ℕ) (t : List ℕ) → In c p.cells → In t (p.entry c) → In k (at p c t) → (e : ℕ) × In e t × (p.place c e ≡ k)
   edge_of c k t i it kt =
       Each-In (λ z. (e : ℕ) × In e t × (p.place c e ≡ z)) (at p c t)
-      (Each-placed (λ z. (e : ℕ) × In e t × (p.place c e ≡ z)) (p.is_odd_cell c) (p.place c) t (Each-from_In (λ y. (e : ℕ) × In e t × (p.place c e ≡ p.place c y)) t (λ y j. (y, j, refl)))) k kt
+      (Each-placed (λ z. (e : ℕ) × In e t × (p.place c e ≡ z)) (p.is_odd_cell c) (p.place c) t
+      (Each-from_In (λ y. (e : ℕ) × In e t × (p.place c e ≡ p.place c y)) t (λ y j. (y, j, refl))))
+      k kt
 
   -- the triangles of one cell at a vertex are joined
   pub in_cell_joined : (k c : ℕ) → In c p.cells → (t u : List ℕ) → In t (p.entry c) → In u (p.entry c) → In k (at p c t) → In k (at p c u) →
@@ -186,7 +208,9 @@ module _ (p : Pieces) (laws : Laws p) (links : LinkLaws p) where
       (y : ℕ) → In y x.part → In (p.place x.cell y) (at p d u)
   seen x f d g hf lies is_over u m q is y j =
       let bipolar = Part-Each (λ e. p.is_bipolar x.cell e ≡ true) x.is_part (laws.tuples x.cell x.tuple x.is_cell x.is_tuple).bipolar in
-      let keeps = laws.seam_keeps x.cell f d g y x.is_cell hf is_over (Each-In (λ e. p.is_bipolar x.cell e ≡ true) x.part bipolar y j) (Each-In (λ e. p.in_facet f e ≡ true) x.part lies y j) in
+      let keeps =
+      laws.seam_keeps x.cell f d g y x.is_cell hf is_over (Each-In (λ e. p.is_bipolar x.cell e ≡ true) x.part bipolar y j)
+      (Each-In (λ e. p.in_facet f e ≡ true) x.part lies y j) in
       let in_over : In (p.seam x.cell f y) (over p x f) = In-map (p.seam x.cell f) (sorted x.part) y (In-sorted y x.part j) in
       let in_m : In (p.seam x.cell f y) m = from_In-sorted (p.seam x.cell f y) m (subst (In (p.seam x.cell f y)) (sym is) in_over) in
       subst (λ (z : ℕ). In z (at p d u)) keeps.2 (In-at d u (p.seam x.cell f y) (Part-In q (p.seam x.cell f y) in_m))
@@ -227,7 +251,8 @@ module _ (p : Pieces) (laws : Laws p) (links : LinkLaws p) where
       }
 
   -- the triangles at k of the cells of one arc are joined
-  pub arc_joined : (k : ℕ) {c d : ℕ} → OnArc p k c d → In c p.cells → In d p.cells → (t u : List ℕ) → In t (p.entry c) → In u (p.entry d) → In k (at p c t) → In k (at p d u) →
+  pub arc_joined : (k : ℕ) {c d : ℕ} → OnArc p k c d → In c p.cells → In d p.cells → (t u : List ℕ) → In t (p.entry c) → In u (p.entry d)
+      → In k (at p c t) → In k (at p d u) →
       (a b r s : ℕ) → Reading k a b (at p c t) → Reading k r s (at p d u) → JoinedAt p k a r
   arc_joined k (stay {c = c}) i j t u it iu kt ku a b r s v w = in_cell_joined k c i t u it iu kt ku a b r s v w
   arc_joined k (over_facet {c = c} {d = m} f g hf is has more) i j t u it iu kt ku a b r s v w =
@@ -241,13 +266,15 @@ module _ (p : Pieces) (laws : Laws p) (links : LinkLaws p) where
       let differ : p.place c q.edge ≢ k = λ z. apart_places c has.0 q.edge i has.1 bx q.differs (z ∙ sym has.3) in
       then_joined k a own.0 r (in_cell_joined k c i t q.tuple it q.is_tuple kt k_own a b own.0 own.1 v own.2)
       (then_joined k own.0 new.0 r
-      (meet c m q.tuple q.there k (p.place c q.edge) i im q.is_tuple q.is_there k_own (In-at c q.tuple q.edge q.has_other) k_there q.other_there differ own.0 own.1 new.0 new.1 own.2 new.2)
+      (meet c m q.tuple q.there k (p.place c q.edge) i im q.is_tuple q.is_there k_own (In-at c q.tuple q.edge q.has_other) k_there q.other_there
+      differ own.0 own.1 new.0 new.1 own.2 new.2)
       (arc_joined k more im j q.there u q.is_there iu k_there ku new.0 new.1 r s new.2 w))
 
   -- ---- a step stays on its arc
 
   -- the cells of two triangles that share a vertex and a further number stand on one arc
-  pub step_on_arc : (c d : ℕ) (t u : List ℕ) (k x : ℕ) → In c p.cells → In d p.cells → In t (p.entry c) → In u (p.entry d) → In k (at p c t) → In x (at p c t) → In k (at p d u) → In x (at p d u) → x ≢ k → OnArc p k c d
+  pub step_on_arc : (c d : ℕ) (t u : List ℕ) (k x : ℕ) → In c p.cells → In d p.cells → In t (p.entry c) → In u (p.entry d) → In k (at p c t)
+      → In x (at p c t) → In k (at p d u) → In x (at p d u) → x ≢ k → OnArc p k c d
   step_on_arc c d t u k x ic id it iu kt xt ku xu differ = elim (cases_eq c d) [
     | inl e ↦ subst (OnArc p k c) e stay
     | inr apart ↦ (let a = edge_of c k t ic it kt in
@@ -279,11 +306,13 @@ module _ (p : Pieces) (laws : Laws p) (links : LinkLaws p) where
   leaving_reads k q v i h differ =
       let s = from_any (is_signed_face (leaving k q) (pair k q)) (left_out v) (and_right (is_distinct v) _ h) in
       let same_face : sorted s.0.1 ≡ pair k q = (bytes_eq-Decides (sorted s.0.1) (pair k q)).0 (and_left (is_face (pair k q) s.0) _ s.2) in
-      let in_v : (y : ℕ) → In y (k ∷ q ∷ []) → In y v = λ y j. Part-In (left_out-Part v s.0 s.1) y (from_In-sorted y s.0.1 (subst (In y) (sym same_face) (In-sorted y (k ∷ q ∷ []) j))) in
+      let in_v : (y : ℕ) → In y (k ∷ q ∷ []) → In y v =
+      λ y j. Part-In (left_out-Part v s.0 s.1) y (from_In-sorted y s.0.1 (subst (In y) (sym same_face) (In-sorted y (k ∷ q ∷ []) j))) in
       let a = has_reading k v (are_linked.three v i) (in_v k (inl refl)) in
       elim (other_is k a.0 a.1 q a.2 (in_v q (inr (inl refl))) (λ e. differ (sym e))) [
         | inl e ↦ (a.1, subst (λ (y : ℕ). Reading k y a.1 v) (sym e) a.2)
-        | inr e ↦ absurd (both_clash (has_signed (leaving k q) (pair k q) v) (has_signed (leaving k q + 1) (pair k q) v) (has_at_a_place (pair k q) v) (face_signs_at (leaving k q) (pair k q) v) h
+        | inr e ↦ absurd (both_clash (has_signed (leaving k q) (pair k q) v) (has_signed (leaving k q + 1) (pair k q) v) (has_at_a_place (pair k q) v)
+            (face_signs_at (leaving k q) (pair k q) v) h
             (enters k a.0 q (subst (λ (y : ℕ). Reading k a.0 y v) (sym e) a.2) (are_linked.distinct v i)))
       ]
 
@@ -292,10 +321,12 @@ module _ (p : Pieces) (laws : Laws p) (links : LinkLaws p) where
   entering_reads k q v i h differ =
       let s = from_any (is_signed_face (leaving k q + 1) (pair k q)) (left_out v) (and_right (is_distinct v) _ h) in
       let same_face : sorted s.0.1 ≡ pair k q = (bytes_eq-Decides (sorted s.0.1) (pair k q)).0 (and_left (is_face (pair k q) s.0) _ s.2) in
-      let in_v : (y : ℕ) → In y (k ∷ q ∷ []) → In y v = λ y j. Part-In (left_out-Part v s.0 s.1) y (from_In-sorted y s.0.1 (subst (In y) (sym same_face) (In-sorted y (k ∷ q ∷ []) j))) in
+      let in_v : (y : ℕ) → In y (k ∷ q ∷ []) → In y v =
+      λ y j. Part-In (left_out-Part v s.0 s.1) y (from_In-sorted y s.0.1 (subst (In y) (sym same_face) (In-sorted y (k ∷ q ∷ []) j))) in
       let a = has_reading k v (are_linked.three v i) (in_v k (inl refl)) in
       elim (other_is k a.0 a.1 q a.2 (in_v q (inr (inl refl))) (λ e. differ (sym e))) [
-        | inl e ↦ absurd (both_clash (has_signed (leaving k q) (pair k q) v) (has_signed (leaving k q + 1) (pair k q) v) (has_at_a_place (pair k q) v) (face_signs_at (leaving k q) (pair k q) v)
+        | inl e ↦ absurd (both_clash (has_signed (leaving k q) (pair k q) v) (has_signed (leaving k q + 1) (pair k q) v) (has_at_a_place (pair k q) v)
+            (face_signs_at (leaving k q) (pair k q) v)
             (leaves k q a.1 (subst (λ (y : ℕ). Reading k y a.1 v) (sym e) a.2) (are_linked.distinct v i)) h)
         | inr e ↦ (a.0, subst (λ (y : ℕ). Reading k a.0 y v) (sym e) a.2)
       ]
@@ -317,14 +348,34 @@ module _ (p : Pieces) (laws : Laws p) (links : LinkLaws p) where
       let b = edge_of c x t i it xt in
       let l = part_with t a.0 b.0 (links.three c t i it) a.1 b.1 (λ e. differ (sym b.2 ∙ ap (p.place c) e ∙ a.2)) in
       let two = pair_part l.0 a.0 b.0 l.2 in
-      record { edge = a.0; has_edge = a.1; edge_place = a.2; part = l.0; is_part = l.1; in_part = two.0; face_is = two.3 (p.place c) ∙ ap (λ (v : ℕ). pair v (p.place c b.0)) a.2 ∙ ap (pair k) b.2 }
+      record {
+        edge = a.0;
+        has_edge = a.1;
+        edge_place = a.2;
+        part = l.0;
+        is_part = l.1;
+        in_part = two.0;
+        face_is = two.3 (p.place c) ∙ ap (λ (v : ℕ). pair v (p.place c b.0)) a.2 ∙ ap (pair k) b.2;
+      }
 
   -- where a face has one sign only, its cell has a free facet there
-  pub alone_at : (c : ℕ) (t : List ℕ) (k x m : ℕ) → In c p.cells → In t (p.entry c) → In k (at p c t) → In x (at p c t) → x ≢ k → placed_count p m (pair k x) ≡ 0 → FreeAt p c k
+  pub alone_at : (c : ℕ) (t : List ℕ) (k x m : ℕ) → In c p.cells → In t (p.entry c) → In k (at p c t) → In x (at p c t) → x ≢ k
+      → placed_count p m (pair k x) ≡ 0 → FreeAt p c k
   alone_at c t k x m i it kt xt differ none =
       let fa = face_at c t k x i it kt xt differ in
-      let g = alone_is_free p laws (record { cell = c; tuple = t; part = fa.part; is_cell = i; is_tuple = it; is_part = fa.is_part }) m (subst (λ (v : List ℕ). placed_count p m v ≡ 0) (sym fa.face_is) none) in
-      (g.0, g.1, g.3, (fa.edge, Each-In (λ z. p.is_bipolar c z ≡ true) t (laws.tuples c t i it).bipolar fa.edge fa.has_edge, Each-In (λ z. p.in_facet g.0 z ≡ true) fa.part g.2 fa.edge fa.in_part, fa.edge_place))
+      let g =
+      alone_is_free p laws (record { cell = c; tuple = t; part = fa.part; is_cell = i; is_tuple = it; is_part = fa.is_part }) m
+      (subst (λ (v : List ℕ). placed_count p m v ≡ 0) (sym fa.face_is) none) in (
+        g.0,
+        g.1,
+        g.3,
+        (
+          fa.edge,
+          Each-In (λ z. p.is_bipolar c z ≡ true) t (laws.tuples c t i it).bipolar fa.edge fa.has_edge,
+          Each-In (λ z. p.in_facet g.0 z ≡ true) fa.part g.2 fa.edge fa.in_part,
+          fa.edge_place,
+        ),
+      )
 
   -- a free facet gives a triangle that no other comes before, or that no other follows
   pub record AtEnd (c k : ℕ) : Type 0 where
@@ -333,7 +384,9 @@ module _ (p : Pieces) (laws : Laws p) (links : LinkLaws p) where
     pub leaves_by : ℕ
     pub enters_by : ℕ
     pub reads : Reading k leaves_by enters_by (at p c tuple)
-    pub alone : ((v : List ℕ) (r : ℕ) → In v (placed_simplices p) → ¬ Reading k r leaves_by v) ⊎ ((v : List ℕ) (r : ℕ) → In v (placed_simplices p) → ¬ Reading k enters_by r v)
+    pub alone :
+        ((v : List ℕ) (r : ℕ) → In v (placed_simplices p) → ¬ Reading k r leaves_by v)
+        ⊎ ((v : List ℕ) (r : ℕ) → In v (placed_simplices p) → ¬ Reading k enters_by r v)
 
   -- it has one
   pub at_free : (c k : ℕ) → In c p.cells → FreeAt p c k → AtEnd c k
@@ -357,20 +410,29 @@ module _ (p : Pieces) (laws : Laws p) (links : LinkLaws p) where
         leaves_by = r.0;
         enters_by = r.1;
         reads = r.2;
-        alone = one_side (at p c q.0) k (p.place c q.1) r.0 r.1 (In-piece c q.0 i q.2) r.2 (other_is k r.0 r.1 (p.place c q.1) r.2 (In-at c q.0 q.1 q.4) differ) once;
+        alone =
+            one_side (at p c q.0) k (p.place c q.1) r.0 r.1 (In-piece c q.0 i q.2) r.2
+            (other_is k r.0 r.1 (p.place c q.1) r.2 (In-at c q.0 q.1 q.4) differ) once;
       }
     where
-      one_side : (w : List ℕ) (k' x a b : ℕ) → In w (placed_simplices p) → Reading k' a b w → (x ≡ a) ⊎ (x ≡ b) → placed_count p 0 (pair k' x) + placed_count p 1 (pair k' x) ≡ 1 →
+      one_side : (w : List ℕ) (k' x a b : ℕ) → In w (placed_simplices p) → Reading k' a b w → (x ≡ a) ⊎ (x ≡ b)
+          → placed_count p 0 (pair k' x) + placed_count p 1 (pair k' x) ≡ 1 →
           ((v : List ℕ) (r : ℕ) → In v (placed_simplices p) → ¬ Reading k' r a v) ⊎ ((v : List ℕ) (r : ℕ) → In v (placed_simplices p) → ¬ Reading k' b r v)
       one_side w k' x a b j r (inl s) once = inl (λ v c' jv rv.
           let both = both_signs (pair k' a) (placed_simplices p) (leaving k' a) (leaving k' a + 1) refl in
-          let once' : placed_count p 0 (pair k' a) + placed_count p 1 (pair k' a) ≡ 1 = subst (λ (z : ℕ). placed_count p 0 (pair k' z) + placed_count p 1 (pair k' z) ≡ 1) s once in
-          let one : 1 ≤ placed_count p (leaving k' a) (pair k' a) = count_some (has_signed (leaving k' a) (pair k' a)) (placed_simplices p) w j (leaves k' a b r (are_linked.distinct w j)) in
-          let more : 1 ≤ placed_count p (leaving k' a + 1) (pair k' a) = count_some (has_signed (leaving k' a + 1) (pair k' a)) (placed_simplices p) v jv (enters k' c' a rv (are_linked.distinct v jv)) in
+          let once' : placed_count p 0 (pair k' a) + placed_count p 1 (pair k' a) ≡ 1 =
+          subst (λ (z : ℕ). placed_count p 0 (pair k' z) + placed_count p 1 (pair k' z) ≡ 1) s once in
+          let one : 1 ≤ placed_count p (leaving k' a) (pair k' a) =
+          count_some (has_signed (leaving k' a) (pair k' a)) (placed_simplices p) w j (leaves k' a b r (are_linked.distinct w j)) in
+          let more : 1 ≤ placed_count p (leaving k' a + 1) (pair k' a) =
+          count_some (has_signed (leaving k' a + 1) (pair k' a)) (placed_simplices p) v jv (enters k' c' a rv (are_linked.distinct v jv)) in
           absurd (omega (arith, both, once', one, more)))
       one_side w k' x a b j r (inr s) once = inr (λ v c' jv rv.
           let both = both_signs (pair k' b) (placed_simplices p) (leaving k' b) (leaving k' b + 1) refl in
-          let once' : placed_count p 0 (pair k' b) + placed_count p 1 (pair k' b) ≡ 1 = subst (λ (z : ℕ). placed_count p 0 (pair k' z) + placed_count p 1 (pair k' z) ≡ 1) s once in
-          let one : 1 ≤ placed_count p (leaving k' b + 1) (pair k' b) = count_some (has_signed (leaving k' b + 1) (pair k' b)) (placed_simplices p) w j (enters k' a b r (are_linked.distinct w j)) in
-          let more : 1 ≤ placed_count p (leaving k' b) (pair k' b) = count_some (has_signed (leaving k' b) (pair k' b)) (placed_simplices p) v jv (leaves k' b c' rv (are_linked.distinct v jv)) in
+          let once' : placed_count p 0 (pair k' b) + placed_count p 1 (pair k' b) ≡ 1 =
+          subst (λ (z : ℕ). placed_count p 0 (pair k' z) + placed_count p 1 (pair k' z) ≡ 1) s once in
+          let one : 1 ≤ placed_count p (leaving k' b + 1) (pair k' b) =
+          count_some (has_signed (leaving k' b + 1) (pair k' b)) (placed_simplices p) w j (enters k' a b r (are_linked.distinct w j)) in
+          let more : 1 ≤ placed_count p (leaving k' b) (pair k' b) =
+          count_some (has_signed (leaving k' b) (pair k' b)) (placed_simplices p) v jv (leaves k' b c' rv (are_linked.distinct v jv)) in
           absurd (omega (arith, both, once', one, more)))

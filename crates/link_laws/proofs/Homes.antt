@@ -1,15 +1,19 @@
--- The triangles at a vertex and their cells: each spoke has one triangle, of one cell; two spokes are joined exactly where their cells stand on one arc, and where a path begins or ends the cell has a free facet.
-use Rattle.std.proofs.Common.{◌≡◌, ℕ, ◌+◌, List, Some, None, refl, sym, ◌∙◌, subst}
+-- The triangles at a vertex and their cells: each spoke has one triangle, of one cell; two spokes are joined exactly where their cells stand on one
+-- arc, and where a path begins or ends the cell has a free facet.
+use Rattle.std.proofs.Common.{◌≡◌, ℕ, ◌+◌, List, Some, refl, sym, ◌∙◌, subst}
 use Rattle.std.specs.Prelude.{◌≢◌}
 use Rattle.iso_model.specs.Placed.{placed_tuple}
-use Rattle.mesh_laws.proofs.Members.{In, In-map, from_In-map, from_In-flat_map, count_none}
-use Rattle.mesh_laws.proofs.FaceSigns.{Each, has_signed, Each-In}
+use Rattle.mesh_laws.proofs.FaceSigns.{has_signed}
 use Rattle.glue_laws.proofs.Pieces.{Pieces, Has, piece, placed_simplices, Laws}
 use Rattle.glue_laws.proofs.InOneCell.{piece_has, everywhere, in_one_cell}
 use Rattle.link_laws.proofs.Readings.{Reading, pair, leaving, distinct_of, from_turned, turned_is, reading_has}
 use Rattle.link_laws.proofs.Links.{AreLinked, injection, from_next, from_out, from_spokes, In-spokes, out_is, one_leaves, next_is}
-use Rattle.link_laws.proofs.Walks.{IsInjection, itself, on, back, some_none}
-use Rattle.link_laws.proofs.Arcs.{LinkLaws, OnArc, step, spokes_at, JoinedAt, FreeAt, at, arc_on, are_linked, In-piece, reading_at, arc_joined, step_on_arc, leaving_reads, entering_reads, alone_at}
+use Rattle.link_laws.proofs.Walks.{IsInjection, itself, on, back}
+use Rattle.link_laws.proofs.Arcs.{LinkLaws, OnArc, step, spokes_at, JoinedAt, FreeAt, at, arc_on, are_linked, In-piece, reading_at, arc_joined}
+use Rattle.link_laws.proofs.Arcs.{step_on_arc, entering_reads, alone_at}
+use Rattle.lists.specs.Members.{In, Each}
+use Rattle.lists.proofs.MemberLaws.{In-map, from_In-map, from_In-flat_map, Each-In}
+use Rattle.lists.proofs.Counts.{count_none}
 
 module _ (p : Pieces) (laws : Laws p) (links : LinkLaws p) (k : ℕ) where
   -- the triangles follow each other one by one
@@ -55,7 +59,9 @@ module _ (p : Pieces) (laws : Laws p) (links : LinkLaws p) (k : ℕ) where
 
   -- two homes that share a further vertex stand on one arc
   share_arc : (y z x : ℕ) (g : Home y) (h : Home z) → In x (at p g.cell g.tuple) → In x (at p h.cell h.tuple) → x ≢ k → OnArc p k g.cell h.cell
-  share_arc y z x g h xg xh differ = step_on_arc p laws links g.cell h.cell g.tuple h.tuple k x g.is_cell h.is_cell g.is_tuple h.is_tuple (reading_has k y g.to g.reads).0 xg (reading_has k z h.to h.reads).0 xh differ
+  share_arc y z x g h xg xh differ =
+      step_on_arc p laws links g.cell h.cell g.tuple h.tuple k x g.is_cell h.is_cell g.is_tuple h.is_tuple (reading_has k y g.to g.reads).0 xg
+      (reading_has k z h.to h.reads).0 xh differ
 
   -- equal options have the same value
   pub some_eq : (a b : ℕ) → Some a ≡ Some b → a ≡ b
@@ -80,7 +86,8 @@ module _ (p : Pieces) (laws : Laws p) (links : LinkLaws p) (k : ℕ) where
   -- spokes of one arc are joined
   pub homes_joined : (a b : ℕ) (g : Home a) (h : Home b) → OnArc p k g.cell h.cell → JoinedAt p k a b
   homes_joined a b g h arc =
-      arc_joined p laws links k arc g.is_cell h.is_cell g.tuple h.tuple g.is_tuple h.is_tuple (reading_has k a g.to g.reads).0 (reading_has k b h.to h.reads).0 a g.to b h.to g.reads h.reads
+      arc_joined p laws links k arc g.is_cell h.is_cell g.tuple h.tuple g.is_tuple h.is_tuple (reading_has k a g.to g.reads).0
+      (reading_has k b h.to h.reads).0 a g.to b h.to g.reads h.reads
 
   -- each cell that has the vertex has a spoke there
   pub spoke_in : (c : ℕ) → In c p.cells → Has p c k → (z : ℕ) × (h : Home z) × (h.cell ≡ c)
@@ -90,18 +97,11 @@ module _ (p : Pieces) (laws : Laws p) (links : LinkLaws p) (k : ℕ) where
       let r = reading_at p laws links c t.0 k i t.1 (subst (In k) t.2 w.2) in
       (r.0, record { cell = c; tuple = t.0; is_cell = i; is_tuple = t.1; to = r.1; reads = r.2 }, refl)
 
-  -- the cell of a spoke that leads nowhere has a free facet at the vertex
-  pub end_free : (z : ℕ) (h : Home z) → step p k z ≡ None → FreeAt p h.cell k
-  end_free z h none =
-      alone_at p laws links h.cell h.tuple k h.to (leaving k h.to) h.is_cell h.is_tuple (reading_has k z h.to h.reads).0 (reading_has k z h.to h.reads).2 (λ s. (not_k z h).1 (sym s))
-      (count_none (has_signed (leaving k h.to) (pair k h.to)) (placed_simplices p) (λ v i t.
-      let r = leaving_reads p laws links k h.to v i t (not_k z h).1 in
-      some_none (step p k) ⊥ h.to (sym (next_is k (placed_simplices p) linked (at p h.cell h.tuple) v z h.to r.0 (in_all z h) i h.reads r.1) ∙ none)))
-
   -- and so has that of a spoke to which none leads
   pub start_free : (z : ℕ) (h : Home z) → ((u : ℕ) → In u (spokes_at p k) → step p k u ≢ Some z) → FreeAt p h.cell k
   start_free z h begins =
-      alone_at p laws links h.cell h.tuple k z (leaving k z + 1) h.is_cell h.is_tuple (reading_has k z h.to h.reads).0 (reading_has k z h.to h.reads).1 (λ s. (not_k z h).0 (sym s))
+      alone_at p laws links h.cell h.tuple k z (leaving k z + 1) h.is_cell h.is_tuple (reading_has k z h.to h.reads).0
+      (reading_has k z h.to h.reads).1 (λ s. (not_k z h).0 (sym s))
       (count_none (has_signed (leaving k z + 1) (pair k z)) (placed_simplices p) (λ v i t.
       let r = entering_reads p laws links k z v i t (not_k z h).0 in
       let e = next_is k (placed_simplices p) linked v (at p h.cell h.tuple) r.0 z h.to i (in_all z h) r.1 h.reads in
@@ -109,7 +109,9 @@ module _ (p : Pieces) (laws : Laws p) (links : LinkLaws p) (k : ℕ) where
 
   -- the cell has all numbers of the triangle
   pub all_at : (y : ℕ) (h : Home y) → Each (Has p h.cell) (at p h.cell h.tuple)
-  all_at y h = piece_has p laws h.cell (at p h.cell h.tuple) h.is_cell (In-map (placed_tuple (p.is_odd_cell h.cell) (p.place h.cell)) (p.entry h.cell) h.tuple h.is_tuple)
+  all_at y h =
+      piece_has p laws h.cell (at p h.cell h.tuple) h.is_cell
+      (In-map (placed_tuple (p.is_odd_cell h.cell) (p.place h.cell)) (p.entry h.cell) h.tuple h.is_tuple)
 
   -- and so it has the vertex
   pub has_at : (y : ℕ) (h : Home y) → Has p h.cell k

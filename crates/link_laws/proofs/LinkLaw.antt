@@ -3,14 +3,16 @@ use Rattle.std.proofs.Common.{◌≡◌, ℕ, ◌≤◌, [], ◌∷◌, length, 
 use Rattle.std.specs.Prelude.{◌≢◌, nat_eq}
 use Rattle.std.proofs.lemmas.Bool.{cases_eq}
 use Rattle.std.proofs.lemmas.Bool.Decides.{nat_tests}
-use Rattle.mesh_laws.proofs.Sorting.{Distinct, bit, count_by-cons}
-use Rattle.mesh_laws.proofs.Members.{In}
 use Rattle.glue_laws.proofs.Pieces.{Pieces, Has, placed_simplices, Laws}
 use Rattle.link_laws.proofs.Readings.{Reading, from_turned}
 use Rattle.link_laws.proofs.Links.{from_next, from_out, out_is}
-use Rattle.link_laws.proofs.Walks.{Walk, outcome, FromStart, walk, meets_joined, all_before, all_after, come_from, start_in, no_longer, the_other_way, member_joined}
+use Rattle.link_laws.proofs.Walks.{Walk, outcome, FromStart, walk, meets_joined, all_before, all_after, come_from, start_in, no_longer, the_other_way}
+use Rattle.link_laws.proofs.Walks.{member_joined}
 use Rattle.link_laws.proofs.Arcs.{LinkLaws, OnArc, step, spokes_at, FreeAt, arc_on, at_free}
-use Rattle.link_laws.proofs.Homes.{linked, steps, only, Home, home_of, spoke_of, in_all, some_eq, joined_arc, homes_joined, spoke_in, start_free, has_at, one_cell}
+use Rattle.link_laws.proofs.Homes.{linked, steps, only, Home, home_of, spoke_of, in_all, some_eq, joined_arc, homes_joined, spoke_in, start_free}
+use Rattle.link_laws.proofs.Homes.{has_at, one_cell}
+use Rattle.lists.specs.Members.{In, Distinct}
+use Rattle.lists.proofs.Sorting.{bit, count_by-cons}
 
 -- the ring law, as kept cells have it
 pub record RingLaws (p : Pieces) : Type 0 where
@@ -42,15 +44,19 @@ module _ (p : Pieces) (laws : Laws p) (links : LinkLaws p) (k : ℕ) where
 
   -- two homes in different cells are of different spokes
   apart_homes : (z y : ℕ) (g : Home p laws links k z) (h : Home p laws links k y) → g.cell ≢ h.cell → z ≢ y
-  apart_homes z y g h differ e = subst (λ (v : ℕ). (i : Home p laws links k v) → g.cell ≢ i.cell → ⊥) e (λ i apart. apart (one_cell p laws links k z g i)) h differ
+  apart_homes z y g h differ e =
+      subst (λ (v : ℕ). (i : Home p laws links k v) → g.cell ≢ i.cell → ⊥) e (λ i apart. apart (one_cell p laws links k z g i)) h differ
 
   -- a walk that comes back meets all spokes of its arc
-  meets : (y : ℕ) (g : Home p laws links k y) (w : WalkFrom y) → step p k w.newest ≡ Some y → (z : ℕ) (h : Home p laws links k z) → OnArc p k g.cell h.cell → In z (w.newest ∷ w.earlier)
+  meets : (y : ℕ) (g : Home p laws links k y) (w : WalkFrom y) → step p k w.newest ≡ Some y → (z : ℕ) (h : Home p laws links k z)
+      → OnArc p k g.cell h.cell → In z (w.newest ∷ w.earlier)
   meets y g w came z h arc =
-      meets_joined (step p k) (spokes_at p k) (steps p laws links k) y w (inr came) (homes_joined p laws links k y z g h arc) (start_in (step p k) y w.newest w.earlier w.chain)
+      meets_joined (step p k) (spokes_at p k) (steps p laws links k) y w (inr came) (homes_joined p laws links k y z g h arc)
+      (start_in (step p k) y w.newest w.earlier w.chain)
 
   -- no cell on the arc of a walk that comes back has a free facet at the vertex
-  no_free_on_cycle : (y : ℕ) (g : Home p laws links k y) (w : WalkFrom y) → step p k w.newest ≡ Some y → (m : ℕ) → In m p.cells → OnArc p k g.cell m → ¬ FreeAt p m k
+  no_free_on_cycle : (y : ℕ) (g : Home p laws links k y) (w : WalkFrom y) → step p k w.newest ≡ Some y → (m : ℕ) → In m p.cells → OnArc p k g.cell m
+      → ¬ FreeAt p m k
   no_free_on_cycle y g w came m im arc free =
       let q = at_free p laws links m k im free in
       let h : Home p laws links k q.leaves_by = record { cell = m; tuple = q.tuple; is_cell = im; is_tuple = q.is_tuple; to = q.enters_by; reads = q.reads } in
@@ -95,7 +101,9 @@ module _ (p : Pieces) (laws : Laws p) (links : LinkLaws p) (k : ℕ) where
       meets_each : (w : WalkFrom s) → step p k w.newest ≡ Some s → (z : ℕ) → In z (spokes_at p k) → In z (w.newest ∷ w.earlier)
       meets_each w came z j =
           let h = home_of p laws links k z j in
-          meets s home w came z h (ring.one_ring k home.cell h.cell home.is_cell h.is_cell (has_at p laws links k s home) (has_at p laws links k z h) (λ m im arc. closed m im))
+          meets s home w came z h
+          (ring.one_ring k home.cell h.cell home.is_cell h.is_cell (has_at p laws links k s home) (has_at p laws links k z h)
+          (λ m im arc. closed m im))
 
       long : (w : WalkFrom s) → step p k w.newest ≡ Some s → 3 ≤ length (w.newest ∷ w.earlier)
       long w came =
@@ -107,7 +115,9 @@ module _ (p : Pieces) (laws : Laws p) (links : LinkLaws p) (k : ℕ) where
           let c : y.0 ≢ z.0 = apart_homes y.0 z.0 y.1 z.1 (λ e. r.8 (sym y.2 ∙ e ∙ z.2)) in
           let met = meets_each w came in
           no_longer (s ∷ y.0 ∷ z.0 ∷ []) (w.newest ∷ w.earlier) (three_apart s y.0 z.0 a b c)
-          (λ x j. among (λ v. In v (w.newest ∷ w.earlier)) s y.0 z.0 x (met s i) (met y.0 (spoke_of p laws links k y.0 y.1)) (met z.0 (spoke_of p laws links k z.0 z.1)) j)
+          (λ x j.
+          among (λ v. In v (w.newest ∷ w.earlier)) s y.0 z.0 x (met s i) (met y.0 (spoke_of p laws links k y.0 y.1))
+          (met z.0 (spoke_of p laws links k z.0 z.1)) j)
 
       -- its triangles form one cycle
       pub cycle_law : IsCycle s
@@ -120,10 +130,12 @@ module _ (p : Pieces) (laws : Laws p) (links : LinkLaws p) (k : ℕ) where
     module _ (free_cell : ℕ) (is_kept : In free_cell p.cells) (free : FreeAt p free_cell k) (c : ℕ) (i : In c p.cells) (has : Has p c k) where
       comes_not_back : (y : ℕ) (h : Home p laws links k y) → h.cell ≡ c → (w : WalkFrom y) → step p k w.newest ≡ Some y → ⊥
       comes_not_back y h is w came =
-          let none : (m : ℕ) → In m p.cells → OnArc p k c m → ¬ FreeAt p m k = λ m im arc. no_free_on_cycle y h w came m im (subst (λ (v : ℕ). OnArc p k v m) (sym is) arc) in
+          let none : (m : ℕ) → In m p.cells → OnArc p k c m → ¬ FreeAt p m k =
+          λ m im arc. no_free_on_cycle y h w came m im (subst (λ (v : ℕ). OnArc p k v m) (sym is) arc) in
           none free_cell is_kept (ring.one_ring k c free_cell i is_kept has (free.3.0, free.3.1, free.3.3) none) free
 
-      from_start : (y : ℕ) (h : Home p laws links k y) → h.cell ≡ c → FromStart (step p k) (spokes_at p k) (steps p laws links k) (only p laws links k) y → IsPath c
+      from_start : (y : ℕ) (h : Home p laws links k y) → h.cell ≡ c
+          → FromStart (step p k) (spokes_at p k) (steps p laws links k) (only p laws links k) y → IsPath c
       from_start y h is f =
           let g = home_of p laws links k f.start f.is_member in
           let back_again = the_other_way (step p k) (spokes_at p k) (steps p laws links k) (only p laws links k) f.reaches in
@@ -131,7 +143,8 @@ module _ (p : Pieces) (laws : Laws p) (links : LinkLaws p) (k : ℕ) where
           let s_to_c : OnArc p k g.cell c = subst (λ (v : ℕ). OnArc p k g.cell v) is (joined_arc p laws links k f.reaches g h) in
           let w = walk (step p k) (spokes_at p k) (steps p laws links k) f.start f.is_member in
           let met : (z : ℕ) (j : Home p laws links k z) → OnArc p k c j.cell → In z (w.newest ∷ w.earlier) = λ z j arc.
-          meets_joined (step p k) (spokes_at p k) (steps p laws links k) f.start w (inl f.begins) (homes_joined p laws links k f.start z g j (arc_on p k s_to_c arc))
+          meets_joined (step p k) (spokes_at p k) (steps p laws links k) f.start w (inl f.begins)
+          (homes_joined p laws links k f.start z g j (arc_on p k s_to_c arc))
           (start_in (step p k) f.start w.newest w.earlier w.chain) in
           record {
             start = f.start;
@@ -140,13 +153,17 @@ module _ (p : Pieces) (laws : Laws p) (links : LinkLaws p) (k : ℕ) where
             begins = f.begins;
             one_start = λ z j arc fresh. elim (cases_eq z f.start) [
               | inl e ↦ e
-              | inr differ ↦ (let r = come_from (step p k) f.start w.newest w.earlier w.chain z (met z j arc) differ in absurd (fresh r.0 (w.inside r.0 (inr r.1)) r.2))
+              | inr differ ↦
+                  (let r = come_from (step p k) f.start w.newest w.earlier w.chain z (met z j arc) differ in
+                  absurd (fresh r.0 (w.inside r.0 (inr r.1)) r.2))
             ];
             path = w;
             ends = elim w.ends [ inl none ↦ none | inr came ↦ absurd (f.begins w.newest (w.inside w.newest (inl refl)) came) ];
             meets_arc = met;
             meets_only = λ z j met_there.
-                let along = member_joined (step p k) (spokes_at p k) (steps p laws links k) (only p laws links k) f.start w.newest w.earlier w.chain z met_there in
+                let along =
+                member_joined (step p k) (spokes_at p k) (steps p laws links k) (only p laws links k) f.start w.newest w.earlier w.chain z
+                met_there in
                 arc_on p k c_to_s (joined_arc p laws links k along g j);
           }
 

@@ -3,13 +3,14 @@ use Rattle.std.proofs.Common.{◌≡◌, ℕ, ◌+◌, ◌≤◌, Bool, true, fa
 use Rattle.std.specs.Prelude.{◌≢◌, ◌⊎◌, nat_eq, count_by, if◌then◌else◌}
 use Rattle.std.proofs.lemmas.Bool.Decides.{nat_tests}
 use Rattle.std.proofs.lemmas.Slice.Eq.{bytes_eq-Decides}
-use Rattle.iso_model.specs.Orders.{same_list}
+use Rattle.lists.specs.Orders.{same_list}
 use Rattle.mesh_laws.proofs.FaceSigns.{has_signed}
 use Rattle.iso_model.specs.Walks.{turned}
-use Rattle.mesh_laws.proofs.Sorting.{bit, count_by-cons, Distinct}
-use Rattle.mesh_laws.proofs.Members.{In, count_some}
 use Rattle.link_laws.proofs.Readings.{Reading, pair, leaving, leaves, enters, turned_is, from_turned, other_is}
 use Rattle.link_laws.proofs.Walks.{IsInjection, Joined, itself, on, back}
+use Rattle.lists.specs.Members.{In, Distinct}
+use Rattle.lists.proofs.Sorting.{bit, count_by-cons}
+use Rattle.lists.proofs.Counts.{count_some}
 
 -- two different members that pass count as two
 two_pass : (t : List ℕ → Bool) (ws : List (List ℕ)) (v w : List ℕ) → In v ws → In w ws → t v ≡ true → t w ≡ true → v ≢ w → 2 ≤ count_by t ws
@@ -79,7 +80,8 @@ module _ (k : ℕ) where
       subst (λ (o : Option (ℕ × ℕ)). In p (add_first o (spokes ts))) (sym f) (inl refl)
   In-spokes (u ∷ ts) w p q (inr i) e = In-add (turned k u) (spokes ts) p (In-spokes ts w p q i e)
 
-  out_case : (ts : List (List ℕ)) (u : List ℕ) (p q : ℕ) → (out ts p ≡ Some q → (w : List ℕ) × In w ts × (turned k w ≡ Some (p, q))) → (o : Option (ℕ × ℕ)) → turned k u ≡ o → take_if p o (out ts p) ≡ Some q →
+  out_case : (ts : List (List ℕ)) (u : List ℕ) (p q : ℕ) → (out ts p ≡ Some q → (w : List ℕ) × In w ts × (turned k w ≡ Some (p, q)))
+      → (o : Option (ℕ × ℕ)) → turned k u ≡ o → take_if p o (out ts p) ≡ Some q →
       (w : List ℕ) × In w (u ∷ ts) × (turned k w ≡ Some (p, q))
   out_case ts u p q later None is e = let r = later e in (r.0, inr r.1, r.2)
   out_case ts u p q later (Some pq) is e = go (nat_eq pq.0 p) (λ h. grind (arith, nat_tests, h)) e
@@ -99,10 +101,6 @@ module _ (k : ℕ) where
       nothing h = cc
   from_out (u ∷ ts) p q e = out_case ts u p q (from_out ts p q) (turned k u) refl e
 
-  some_or : (o : Option ℕ) → ((q : ℕ) × (o ≡ Some q)) ⊎ (o ≡ None)
-  some_or None = inr refl
-  some_or (Some q) = inl (q, refl)
-
   out_some_case : (o : Option (ℕ × ℕ)) (later : Option ℕ) (p q : ℕ) → o ≡ Some (p, q) → (r : ℕ) × (take_if p o later ≡ Some r)
   out_some_case o later p q e =
       let h : nat_eq p p ≡ true = grind (arith, nat_tests) in
@@ -121,7 +119,8 @@ module _ (k : ℕ) where
   out_some (u ∷ ts) w p q (inl s) e = out_some_case (turned k u) (out ts p) p q (ap (turned k) (sym s) ∙ e)
   out_some (u ∷ ts) w p q (inr i) e = let r = out_some ts w p q i e in out_later_case (turned k u) (out ts p) p r.0 r.1
 
-  from_spokes_case : (ts : List (List ℕ)) (u : List ℕ) (p : ℕ) → (In p (spokes ts) → (w : List ℕ) × (q : ℕ) × In w ts × (turned k w ≡ Some (p, q))) → (o : Option (ℕ × ℕ)) → turned k u ≡ o → In p (add_first o (spokes ts)) →
+  from_spokes_case : (ts : List (List ℕ)) (u : List ℕ) (p : ℕ) → (In p (spokes ts) → (w : List ℕ) × (q : ℕ) × In w ts × (turned k w ≡ Some (p, q)))
+      → (o : Option (ℕ × ℕ)) → turned k u ≡ o → In p (add_first o (spokes ts)) →
       (w : List ℕ) × (q : ℕ) × In w (u ∷ ts) × (turned k w ≡ Some (p, q))
   from_spokes_case ts u p later None is i = let r = later i in (r.0, r.1, inr r.2, r.3)
   from_spokes_case ts u p later (Some pq) is (inl e) = (u, pq.1, inl refl, is ∙ ap Some (λ i. (sym e i, pq.1)))
@@ -138,7 +137,9 @@ module _ (k : ℕ) where
     one_leaves v w p q r i j a b = elim (same_list_or v w) [
       | inl e ↦ e
       | inr differ ↦ (let most = linked.few (leaving k p) (pair k p) in
-          let two = two_pass (has_signed (leaving k p) (pair k p)) ts v w i j (leaves k p q a (linked.distinct v i)) (leaves k p r b (linked.distinct w j)) differ in
+          let two =
+          two_pass (has_signed (leaving k p) (pair k p)) ts v w i j (leaves k p q a (linked.distinct v i)) (leaves k p r b (linked.distinct w j))
+          differ in
           absurd (omega (arith, most, two)))
     ]
 
@@ -146,7 +147,9 @@ module _ (k : ℕ) where
     one_enters v w p r q i j a b = elim (same_list_or v w) [
       | inl e ↦ e
       | inr differ ↦ (let most = linked.few (leaving k q + 1) (pair k q) in
-          let two = two_pass (has_signed (leaving k q + 1) (pair k q)) ts v w i j (enters k p q a (linked.distinct v i)) (enters k r q b (linked.distinct w j)) differ in
+          let two =
+          two_pass (has_signed (leaving k q + 1) (pair k q)) ts v w i j (enters k p q a (linked.distinct v i))
+          (enters k r q b (linked.distinct w j)) differ in
           absurd (omega (arith, most, two)))
     ]
 
@@ -204,7 +207,8 @@ module _ (k : ℕ) where
     }
 
     -- two triangles at k that share one more vertex are joined
-    pub joined : (v w : List ℕ) (p q r s x : ℕ) → In v ts → In w ts → Reading k p q v → Reading k r s w → In x v → In x w → x ≢ k → Joined (next ts) (spokes ts) p r
+    pub joined : (v w : List ℕ) (p q r s x : ℕ) → In v ts → In w ts → Reading k p q v → Reading k r s w → In x v → In x w → x ≢ k
+        → Joined (next ts) (spokes ts) p r
     joined v w p q r s x i j a b xv xw differ = elim (other_is k p q x a xv differ) [
       | inl e ↦ (elim (other_is k r s x b xw differ) [
         | inl f ↦ subst (Joined (next ts) (spokes ts) p) (sym e ∙ f) itself

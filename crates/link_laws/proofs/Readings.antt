@@ -4,11 +4,14 @@ use Rattle.std.specs.Prelude.{◌≢◌, ◌%◌, ◌⊎◌, nat_eq, nat_lt, if�
 use Rattle.std.specs.List.{list_any}
 use Rattle.std.proofs.lemmas.Bool.Decides.{nat_tests}
 use Rattle.std.proofs.lemmas.Slice.Eq.{bytes_eq-Decides}
-use Rattle.iso_model.specs.Orders.{sorted, inversions}
+use Rattle.lists.specs.Orders.{sorted, inversions}
 use Rattle.iso_model.specs.Walks.{turned}
-use Rattle.mesh_laws.proofs.Sorting.{bit, count_by-cons, Distinct, put_in_comm}
-use Rattle.mesh_laws.proofs.Members.{In, any_from}
-use Rattle.mesh_laws.proofs.FaceSigns.{has_signed, is_signed_face, left_out, distinct_test}
+use Rattle.mesh_laws.proofs.FaceSigns.{has_signed, is_signed_face, left_out}
+use Rattle.lists.specs.Members.{In, Distinct}
+use Rattle.lists.proofs.MemberLaws.{any_from}
+use Rattle.lists.proofs.Sorting.{bit, count_by-cons, put_in_comm}
+use Rattle.lists.proofs.DistinctLists.{distinct_test}
+use Rattle.std.proofs.lemmas.Option.{same_Some}
 
 -- the three ways in which a triangle reads (k, p, q)
 pub data Reading (k p q : ℕ) : List ℕ → Type 0 where
@@ -40,27 +43,48 @@ signed_turned k x i m even =
 module _ (k p q : ℕ) where
   -- its other numbers are not k
   pub distinct_of : {w : List ℕ} → Reading k p q w → Distinct w → (k ≢ p) × (k ≢ q)
-  distinct_of at_first d = (grind (arith, nat_tests, d.0, count_by-cons (nat_eq k) p (q ∷ []), count_by-cons (nat_eq k) q []), grind (arith, nat_tests, d.0, count_by-cons (nat_eq k) p (q ∷ []), count_by-cons (nat_eq k) q []))
-  distinct_of at_second d = (grind (arith, nat_tests, d.1.0, count_by-cons (nat_eq k) p []), grind (arith, nat_tests, d.0, count_by-cons (nat_eq q) k (p ∷ []), count_by-cons (nat_eq q) p []))
-  distinct_of at_third d = (grind (arith, nat_tests, d.0, count_by-cons (nat_eq p) q (k ∷ []), count_by-cons (nat_eq p) k []), grind (arith, nat_tests, d.1.0, count_by-cons (nat_eq q) k []))
+  distinct_of at_first d = (
+    grind (arith, nat_tests, d.0, count_by-cons (nat_eq k) p (q ∷ []), count_by-cons (nat_eq k) q []),
+    grind (arith, nat_tests, d.0, count_by-cons (nat_eq k) p (q ∷ []), count_by-cons (nat_eq k) q []),
+  )
+  distinct_of at_second d = (
+    grind (arith, nat_tests, d.1.0, count_by-cons (nat_eq k) p []),
+    grind (arith, nat_tests, d.0, count_by-cons (nat_eq q) k (p ∷ []), count_by-cons (nat_eq q) p []),
+  )
+  distinct_of at_third d = (
+    grind (arith, nat_tests, d.0, count_by-cons (nat_eq p) q (k ∷ []), count_by-cons (nat_eq p) k []),
+    grind (arith, nat_tests, d.1.0, count_by-cons (nat_eq q) k []),
+  )
 
   -- it has the face at p with the leaving sign
   pub leaves : {w : List ℕ} → Reading k p q w → Distinct w → has_signed (leaving k p) (pair k p) w ≡ true
   leaves {w} r d = rw (distinct_test w d) (found r (distinct_of r d).0)
     where
       found : {v : List ℕ} → Reading k p q v → k ≢ p → list_any (is_signed_face (leaving k p) (pair k p)) (left_out v) ≡ true
-      found at_first differ = any_from (is_signed_face (leaving k p) (pair k p)) (left_out (k ∷ p ∷ q ∷ [])) (2, k ∷ p ∷ []) (inr (inr (inl refl))) (signed_pair k p 2 (leaving k p) (omega arith))
-      found at_second differ = any_from (is_signed_face (leaving k p) (pair k p)) (left_out (q ∷ k ∷ p ∷ [])) (0, k ∷ p ∷ []) (inl refl) (signed_pair k p 0 (leaving k p) (omega arith))
-      found at_third differ = any_from (is_signed_face (leaving k p) (pair k p)) (left_out (p ∷ q ∷ k ∷ [])) (1, p ∷ k ∷ []) (inr (inl refl)) (signed_turned k p 1 (leaving k p) (omega (arith, two_orders k p differ)))
+      found at_first differ =
+          any_from (is_signed_face (leaving k p) (pair k p)) (left_out (k ∷ p ∷ q ∷ [])) (2, k ∷ p ∷ []) (inr (inr (inl refl)))
+          (signed_pair k p 2 (leaving k p) (omega arith))
+      found at_second differ =
+          any_from (is_signed_face (leaving k p) (pair k p)) (left_out (q ∷ k ∷ p ∷ [])) (0, k ∷ p ∷ []) (inl refl)
+          (signed_pair k p 0 (leaving k p) (omega arith))
+      found at_third differ =
+          any_from (is_signed_face (leaving k p) (pair k p)) (left_out (p ∷ q ∷ k ∷ [])) (1, p ∷ k ∷ []) (inr (inl refl))
+          (signed_turned k p 1 (leaving k p) (omega (arith, two_orders k p differ)))
 
   -- and the face at q with the other
   pub enters : {w : List ℕ} → Reading k p q w → Distinct w → has_signed (leaving k q + 1) (pair k q) w ≡ true
   enters {w} r d = rw (distinct_test w d) (found r (distinct_of r d).1)
     where
       found : {v : List ℕ} → Reading k p q v → k ≢ q → list_any (is_signed_face (leaving k q + 1) (pair k q)) (left_out v) ≡ true
-      found at_first differ = any_from (is_signed_face (leaving k q + 1) (pair k q)) (left_out (k ∷ p ∷ q ∷ [])) (1, k ∷ q ∷ []) (inr (inl refl)) (signed_pair k q 1 (leaving k q + 1) (omega arith))
-      found at_second differ = any_from (is_signed_face (leaving k q + 1) (pair k q)) (left_out (q ∷ k ∷ p ∷ [])) (2, q ∷ k ∷ []) (inr (inr (inl refl))) (signed_turned k q 2 (leaving k q + 1) (omega (arith, two_orders k q differ)))
-      found at_third differ = any_from (is_signed_face (leaving k q + 1) (pair k q)) (left_out (p ∷ q ∷ k ∷ [])) (0, q ∷ k ∷ []) (inl refl) (signed_turned k q 0 (leaving k q + 1) (omega (arith, two_orders k q differ)))
+      found at_first differ =
+          any_from (is_signed_face (leaving k q + 1) (pair k q)) (left_out (k ∷ p ∷ q ∷ [])) (1, k ∷ q ∷ []) (inr (inl refl))
+          (signed_pair k q 1 (leaving k q + 1) (omega arith))
+      found at_second differ =
+          any_from (is_signed_face (leaving k q + 1) (pair k q)) (left_out (q ∷ k ∷ p ∷ [])) (2, q ∷ k ∷ []) (inr (inr (inl refl)))
+          (signed_turned k q 2 (leaving k q + 1) (omega (arith, two_orders k q differ)))
+      found at_third differ =
+          any_from (is_signed_face (leaving k q + 1) (pair k q)) (left_out (p ∷ q ∷ k ∷ [])) (0, q ∷ k ∷ []) (inl refl)
+          (signed_turned k q 0 (leaving k q + 1) (omega (arith, two_orders k q differ)))
 
 -- a triangle at k has a reading, and it is the one that `turned` gives
 pub turned_is : (k p q : ℕ) {w : List ℕ} → Reading k p q w → Distinct w → turned k w ≡ Some (p, q)
@@ -78,19 +102,16 @@ turned_is k p q at_third d =
 abbrev two : ℕ → ℕ → ℕ × ℕ
 two a b = (a, b)
 
-some_same : (x y : ℕ × ℕ) → Some x ≡ Some y → x ≡ y
-some_same x y h = cc
-
 from_turned_case : (k a b c p q : ℕ) → (x y z : Bool) → (x ≡ true → a ≡ k) → (y ≡ true → b ≡ k) → (z ≡ true → c ≡ k) →
     (if x then Some (two b c) else (if y then Some (two c a) else (if z then Some (two a b) else None))) ≡ Some (two p q) → Reading k p q (a ∷ b ∷ c ∷ [])
 from_turned_case k a b c p q true y z hx hy hz e =
-    let h = some_same (two b c) (two p q) e in
+    let h = same_Some (two b c) (two p q) e in
     rw (hx refl, ap (λ (v : ℕ × ℕ). v.0) h, ap (λ (v : ℕ × ℕ). v.1) h) at_first
 from_turned_case k a b c p q false true z hx hy hz e =
-    let h = some_same (two c a) (two p q) e in
+    let h = same_Some (two c a) (two p q) e in
     rw (hy refl, ap (λ (v : ℕ × ℕ). v.0) h, ap (λ (v : ℕ × ℕ). v.1) h) at_second
 from_turned_case k a b c p q false false true hx hy hz e =
-    let h = some_same (two a b) (two p q) e in
+    let h = same_Some (two a b) (two p q) e in
     rw (hz refl, ap (λ (v : ℕ × ℕ). v.0) h, ap (λ (v : ℕ × ℕ). v.1) h) at_third
 from_turned_case k a b c p q false false false hx hy hz e = absurd (nothing (two p q) e)
   where
@@ -111,7 +132,9 @@ from_turned k p q (a ∷ b ∷ []) e = absurd (nothing (two p q) e)
   where
     nothing : (v : ℕ × ℕ) → None ≡ Some v → ⊥
     nothing v h = cc
-from_turned k p q (a ∷ b ∷ c ∷ []) e = from_turned_case k a b c p q (nat_eq a k) (nat_eq b k) (nat_eq c k) (λ h. grind (arith, nat_tests, h)) (λ h. grind (arith, nat_tests, h)) (λ h. grind (arith, nat_tests, h)) e
+from_turned k p q (a ∷ b ∷ c ∷ []) e =
+    from_turned_case k a b c p q (nat_eq a k) (nat_eq b k) (nat_eq c k) (λ h. grind (arith, nat_tests, h)) (λ h. grind (arith, nat_tests, h))
+    (λ h. grind (arith, nat_tests, h)) e
 from_turned k p q (a ∷ b ∷ c ∷ x ∷ w) e = absurd (nothing (two p q) e)
   where
     nothing : (v : ℕ × ℕ) → None ≡ Some v → ⊥

@@ -1,14 +1,17 @@
--- The triangles at a vertex by their numbers: where no two of them have one p, or one q, the step from triangle to triangle goes from q to p, and a start is one whose p is no q.
-use Rattle.std.specs.Prelude.{◌≡◌, ◌<◌, ◌≤◌, ◌+◌, ◌==◌, ℕ, zero, suc, nat_eq, count_by, Bool, true, false, not, cond, List, [], ◌∷◌, length, find, filter, Contains, is_some, Option, Some, None, option_and_then}
-use Rattle.std.specs.List.{list_any, range_with_len}
+-- The triangles at a vertex by their numbers: where no two of them have one p, or one q, the step from triangle to triangle goes from q to p, and a
+-- start is one whose p is no q.
+use Rattle.std.specs.Prelude.{◌≡◌, ◌<◌, ◌==◌, ℕ, Bool, true, false, not, cond, List, [], ◌∷◌, length, find}
+use Rattle.std.specs.Prelude.{filter, is_some, Option, Some, None, option_and_then}
+use Rattle.std.specs.List.{list_any}
 use Rattle.std.specs.Option.{option_map_or, unwrap_or}
-use Rattle.std.proofs.Common.{refl, ap, sym, ◌∙◌, subst, arith, inl, inr}
-use Rattle.std.proofs.lemmas.Bool.Decides.{nat_tests}
-use Rattle.iso_model.specs.Orders.{numbers}
+use Rattle.std.proofs.Common.{refl, ap, sym, ◌∙◌, subst, inl, inr}
+use Rattle.lists.specs.Orders.{numbers}
 use Rattle.iso_model.specs.Walks.{reading, triangles_at, has_p, has_q, next_at, is_start}
-use Rattle.iso_model.proofs.Deciding.{below_contained, contained_below, equal_of, of_equal}
-use Rattle.mesh_laws.proofs.Sorting.{Distinct}
-use Rattle.mesh_laws.proofs.Members.{In, In_from, Contains_from, from_any, any_from, count_none, count_some}
+use Rattle.lists.specs.Members.{In, Distinct}
+use Rattle.lists.proofs.Tests.{equal_of, of_equal}
+use Rattle.lists.proofs.Contained.{below_contained, contained_below}
+use Rattle.lists.proofs.MemberLaws.{Contains_from, from_any, any_from, In-filter, In_from}
+use Rattle.lists.proofs.DistinctLists.{Distinct-range, Distinct-filter}
 
 -- the triangle of this number reads (k, p, q)
 abbrev pub ReadsAt : List (List ℕ) → ℕ → ℕ → ℕ → ℕ → Type 0
@@ -16,20 +19,8 @@ ReadsAt ts k t p q = (t < length ts) × (reading ts k t ≡ Some (p, q))
 
 -- ---- members of a list that pass a test
 
-pub In_of : {X : Type 0} (xs : List X) (x : X) → Contains xs x → In x xs
-In_of xs x c = In_from xs x c.0 c.1 c.2
-
-kept_case : (p : ℕ → Bool) (x y : ℕ) (ys : List ℕ) → In x (y ∷ ys) → p x ≡ true → (In x ys → In x (filter p ys)) → (b : Bool) → p y ≡ b → In x (cond b (y ∷ filter p ys) (filter p ys))
-kept_case p x y ys (inl e) h later true is = inl e
-kept_case p x y ys (inl e) h later false is = let clash : true ≡ false = sym h ∙ ap p e ∙ is in absurd (cc)
-kept_case p x y ys (inr i) h later true is = inr (later i)
-kept_case p x y ys (inr i) h later false is = later i
-
-kept : (p : ℕ → Bool) (xs : List ℕ) (x : ℕ) → In x xs → p x ≡ true → In x (filter p xs)
-kept p [] x i h = absurd i
-kept p (y ∷ ys) x i h = kept_case p x y ys i h (λ j. kept p ys x j h) (p y) refl
-
-from_kept_case : (p : ℕ → Bool) (x y : ℕ) (ys : List ℕ) → (In x (filter p ys) → In x ys × (p x ≡ true)) → (b : Bool) → p y ≡ b → In x (cond b (y ∷ filter p ys) (filter p ys)) → In x (y ∷ ys) × (p x ≡ true)
+from_kept_case : (p : ℕ → Bool) (x y : ℕ) (ys : List ℕ) → (In x (filter p ys) → In x ys × (p x ≡ true)) → (b : Bool) → p y ≡ b
+    → In x (cond b (y ∷ filter p ys) (filter p ys)) → In x (y ∷ ys) × (p x ≡ true)
 from_kept_case p x y ys later true is (inl e) = (inl e, subst (λ (v : ℕ). p v ≡ true) (sym e) is)
 from_kept_case p x y ys later true is (inr i) = let r = later i in (inr r.0, r.1)
 from_kept_case p x y ys later false is i = let r = later i in (inr r.0, r.1)
@@ -38,7 +29,8 @@ from_kept : (p : ℕ → Bool) (xs : List ℕ) (x : ℕ) → In x (filter p xs) 
 from_kept p [] x i = absurd i
 from_kept p (y ∷ ys) x i = from_kept_case p x y ys (from_kept p ys x) (p y) refl i
 
-from_find_case : (p : ℕ → Bool) (v y : ℕ) (ys : List ℕ) → (find p ys ≡ Some v → In v ys × (p v ≡ true)) → (b : Bool) → p y ≡ b → cond b (Some y) (find p ys) ≡ Some v → In v (y ∷ ys) × (p v ≡ true)
+from_find_case : (p : ℕ → Bool) (v y : ℕ) (ys : List ℕ) → (find p ys ≡ Some v → In v ys × (p v ≡ true)) → (b : Bool) → p y ≡ b
+    → cond b (Some y) (find p ys) ≡ Some v → In v (y ∷ ys) × (p v ≡ true)
 from_find_case p v y ys later true is e = let same : y ≡ v = some_same y v e in (inl (sym same), subst (λ (z : ℕ). p z ≡ true) same is)
   where
     some_same : (a b : ℕ) → Some a ≡ Some b → a ≡ b
@@ -53,7 +45,8 @@ from_find p [] v e = absurd (nothing e)
     nothing h = cc
 from_find p (y ∷ ys) v e = from_find_case p v y ys (from_find p ys v) (p y) refl e
 
-found_case : (p : ℕ → Bool) (u y : ℕ) (ys : List ℕ) → In u (y ∷ ys) → p u ≡ true → (In u ys → (v : ℕ) × (find p ys ≡ Some v)) → (b : Bool) → p y ≡ b → (v : ℕ) × (cond b (Some y) (find p ys) ≡ Some v)
+found_case : (p : ℕ → Bool) (u y : ℕ) (ys : List ℕ) → In u (y ∷ ys) → p u ≡ true → (In u ys → (v : ℕ) × (find p ys ≡ Some v)) → (b : Bool) → p y ≡ b
+    → (v : ℕ) × (cond b (Some y) (find p ys) ≡ Some v)
 found_case p u y ys i h later true is = (y, refl)
 found_case p u y ys (inl e) h later false is = let clash : true ≡ false = sym h ∙ ap p e ∙ is in absurd (cc)
 found_case p u y ys (inr i) h later false is = later i
@@ -62,32 +55,6 @@ found_case p u y ys (inr i) h later false is = later i
 pub found : (p : ℕ → Bool) (xs : List ℕ) (u : ℕ) → In u xs → p u ≡ true → (v : ℕ) × (find p xs ≡ Some v)
 found p [] u i h = absurd i
 found p (y ∷ ys) u i h = found_case p u y ys i h (λ j. found p ys u j h) (p y) refl
-
--- what is no member is counted nowhere, and the other way round
-pub never_there : (x : ℕ) (xs : List ℕ) → (In x xs → ⊥) → count_by (nat_eq x) xs ≡ 0
-never_there x xs never = count_none (nat_eq x) xs (λ y i e. let same : x ≡ y = grind (arith, nat_tests, e) in never (subst (λ (z : ℕ). In z xs) (sym same) i))
-
-pub not_there : (x : ℕ) (xs : List ℕ) → count_by (nat_eq x) xs ≡ 0 → In x xs → ⊥
-not_there x xs none i =
-    let self : nat_eq x x ≡ true = grind (arith, nat_tests) in
-    omega (arith, none, count_some (nat_eq x) xs x i self)
-
-range_above : (a n x : ℕ) → In x (range_with_len a n) → a ≤ x
-range_above a zero x i = absurd i
-range_above a (suc n) x (inl e) = omega (arith, e)
-range_above a (suc n) x (inr i) = omega (arith, range_above (a + 1) n x i)
-
-range_distinct : (a n : ℕ) → Distinct (range_with_len a n)
-range_distinct a zero = tt
-range_distinct a (suc n) = (never_there a (range_with_len (a + 1) n) (λ i. omega (arith, range_above (a + 1) n a i)), range_distinct (a + 1) n)
-
-kept_distinct_case : (p : ℕ → Bool) (y : ℕ) (ys : List ℕ) → count_by (nat_eq y) ys ≡ 0 → Distinct (filter p ys) → (b : Bool) → Distinct (cond b (y ∷ filter p ys) (filter p ys))
-kept_distinct_case p y ys none later true = (never_there y (filter p ys) (λ i. not_there y ys none (from_kept p ys y i).0), later)
-kept_distinct_case p y ys none later false = later
-
-kept_distinct : (p : ℕ → Bool) (xs : List ℕ) → Distinct xs → Distinct (filter p xs)
-kept_distinct p [] d = tt
-kept_distinct p (y ∷ ys) d = kept_distinct_case p y ys d.0 (kept_distinct p ys d.1) (p y)
 
 -- ---- the triangles at k, and how they read
 
@@ -106,10 +73,13 @@ with_q q (Some r) e = let h : r.1 ≡ q = equal_of r.1 q e in (r.0, ap Some (λ 
 module _ (ts : List (List ℕ)) (k : ℕ) where
   -- a triangle that reads (k, p, q) is one of those at k
   pub triangles_have : (t p q : ℕ) → ReadsAt ts k t p q → In t (triangles_at ts k)
-  triangles_have t p q r = kept (λ u. is_some (reading ts k u)) (numbers (length ts)) t (In_of (numbers (length ts)) t (contained_below (length ts) t r.0)) (ap is_some r.1)
+  triangles_have t p q r =
+      In-filter (λ u. is_some (reading ts k u)) (numbers (length ts)) t (In_from (numbers (length ts)) t (contained_below (length ts) t r.0))
+      (ap is_some r.1)
 
   triangles_below : (t : ℕ) → In t (triangles_at ts k) → t < length ts
-  triangles_below t i = below_contained (length ts) t (Contains_from (numbers (length ts)) t (from_kept (λ u. is_some (reading ts k u)) (numbers (length ts)) t i).0)
+  triangles_below t i =
+      below_contained (length ts) t (Contains_from (numbers (length ts)) t (from_kept (λ u. is_some (reading ts k u)) (numbers (length ts)) t i).0)
 
   -- each triangle at k reads (k, p, q) with some p and q
   pub triangles_read : (t : ℕ) → In t (triangles_at ts k) → (p : ℕ) × (q : ℕ) × ReadsAt ts k t p q
@@ -119,7 +89,7 @@ module _ (ts : List (List ℕ)) (k : ℕ) where
 
   -- the list of them has none twice
   pub triangles_distinct : Distinct (triangles_at ts k)
-  triangles_distinct = kept_distinct (λ u. is_some (reading ts k u)) (numbers (length ts)) (range_distinct 0 (length ts))
+  triangles_distinct = Distinct-filter (λ u. is_some (reading ts k u)) (numbers (length ts)) (Distinct-range 0 (length ts))
 
   has_p_at : (t p q : ℕ) → ReadsAt ts k t p q → has_p ts k p t ≡ true
   has_p_at t p q r = subst (λ (o : Option (ℕ × ℕ)). option_map_or (λ (s : ℕ × ℕ). s.0 == p) o false ≡ true) (sym r.1) (of_equal p p refl)

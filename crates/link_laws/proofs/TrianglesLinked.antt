@@ -1,4 +1,5 @@
--- Cycles and paths of spokes are cycles and paths of triangles: the triangles at a vertex form one cycle where its spokes do, and one path where the spokes of an arc do.
+-- Cycles and paths of spokes are cycles and paths of triangles: the triangles at a vertex form one cycle where its spokes do, and one path where the
+-- spokes of an arc do.
 use Rattle.std.specs.Prelude.{◌≡◌, ◌≢◌, ◌<◌, ◌≤◌, ◌==◌, ◌↔◌, ℕ, Bool, true, false, cond, nat_eq, List, [], ◌∷◌, length, find, Contains, Option, Some, None}
 use Rattle.std.specs.Option.{option_map_or, option_or}
 use Rattle.std.proofs.Common.{refl, ap, sym, ◌∙◌, subst, arith, inl, inr}
@@ -6,15 +7,17 @@ use Rattle.std.proofs.lemmas.Bool.Decides.{nat_tests}
 use Rattle.iso_model.specs.Values.{Volume}
 use Rattle.iso_model.specs.Walks.{walk, walk_from, triangles_at, is_start, next_after, first_triangle, comes_back}
 use Rattle.iso_model.specs.Links.{IsCycle, IsPath, StandsOnArc}
-use Rattle.iso_model.proofs.Deciding.{All-from_each, of_equal}
 use Rattle.iso_model.proofs.WalkLaws.{length-distinct-le}
-use Rattle.mesh_laws.proofs.Members.{In, Contains_from}
-use Rattle.mesh_laws.proofs.FaceSigns.{distinct_test}
 use Rattle.link_laws.proofs.Walks.{Walk, start_in}
 use Rattle.link_laws.proofs.Links.{AreLinked, next, spokes}
-use Rattle.link_laws.proofs.TrianglesAt.{ReadsAt, In_of, number, no_start, triangles_have, triangles_read, triangles_distinct}
+use Rattle.link_laws.proofs.TrianglesAt.{ReadsAt, number, no_start, triangles_have, triangles_read, triangles_distinct}
 use Rattle.link_laws.proofs.TrianglesOnce.{led, spoke_of, of_spoke, only_of_spoke, next_number, next_nowhere, start_number, from_start_number}
 use Rattle.link_laws.proofs.TrianglesMet.{order_of, after_order, order_length, order_has, from_order, order_distinct, order_is_walk, walk_from_order}
+use Rattle.lists.specs.Members.{In}
+use Rattle.lists.proofs.Tests.{of_equal}
+use Rattle.lists.proofs.Contained.{All-from_each}
+use Rattle.lists.proofs.MemberLaws.{Contains_from, In_from}
+use Rattle.lists.proofs.DistinctLists.{distinct_test}
 
 -- ---- the first triangle, and what is said of the walk from it
 
@@ -26,18 +29,19 @@ first_found : (xs : List ℕ) → 0 < length xs → (t : ℕ) × (find (λ x. tr
 first_found [] h = absurd (omega (arith, h))
 first_found (x ∷ xs) h = (x, refl, inl refl)
 
-first_is : (ts : List (List ℕ)) (k t : ℕ) → find (is_start ts k) (triangles_at ts k) ≡ None → find (λ x. true) (triangles_at ts k) ≡ Some t → first_triangle ts k ≡ Some t
+first_is : (ts : List (List ℕ)) (k t : ℕ) → find (is_start ts k) (triangles_at ts k) ≡ None → find (λ x. true) (triangles_at ts k) ≡ Some t
+    → first_triangle ts k ≡ Some t
 first_is ts k t none some = ap (λ (o : Option ℕ). option_or o (find (λ x. true) (triangles_at ts k))) none ∙ some
 
 order_from : (ts : List (List ℕ)) (k : ℕ) → (walk ts k).order ≡ walk_from ts k (first_triangle ts k)
 unfolding walk
 order_from ts k = refl
 
-closed_from : (ts : List (List ℕ)) (k : ℕ) → (walk ts k).closed ≡ comes_back ts k (walk_from ts k (first_triangle ts k))
+pub closed_from : (ts : List (List ℕ)) (k : ℕ) → (walk ts k).closed ≡ comes_back ts k (walk_from ts k (first_triangle ts k))
 unfolding walk
 closed_from ts k = refl
 
-whole_from : (ts : List (List ℕ)) (k : ℕ) → (walk ts k).whole ≡ (length (walk_from ts k (first_triangle ts k)) == length (triangles_at ts k))
+pub whole_from : (ts : List (List ℕ)) (k : ℕ) → (walk ts k).whole ≡ (length (walk_from ts k (first_triangle ts k)) == length (triangles_at ts k))
 unfolding walk
 whole_from ts k = refl
 
@@ -60,7 +64,8 @@ module _ (ts : List (List ℕ)) (k : ℕ) (linked : AreLinked ts) where
     round_closes : comes_back ts k (order_of ts k linked c.round) ≡ true
     round_closes =
         let begins = (order_is_walk ts k linked s c.round).begins in
-        let back : next_after ts k (order_of ts k linked c.round) ≡ Some (number ts k s) = after_order ts k linked s c.round ∙ next_number ts k linked c.round.newest s c.closes in
+        let back : next_after ts k (order_of ts k linked c.round) ≡ Some (number ts k s) =
+        after_order ts k linked s c.round ∙ next_number ts k linked c.round.newest s c.closes in
         subst (λ (l : List ℕ). comes_back ts k l ≡ true) (sym begins.1)
         (comes_back_where ts k (number ts k s) begins.0 (subst (λ (l : List ℕ). next_after ts k l ≡ Some (number ts k s)) begins.1 back))
 
@@ -73,14 +78,16 @@ module _ (ts : List (List ℕ)) (k : ℕ) (linked : AreLinked ts) where
     round_has : (t : ℕ) → In t (triangles_at ts k) → In t (order_of ts k linked c.round)
     round_has t i =
         let r = triangles_read ts k t i in
-        subst (λ (u : ℕ). In u (order_of ts k linked c.round)) (only_of_spoke ts k linked t r.0 r.1 r.2) (order_has ts k linked s c.round r.0 (c.meets_all r.0 (spoke_of ts k linked t r.0 r.1 r.2)))
+        subst (λ (u : ℕ). In u (order_of ts k linked c.round)) (only_of_spoke ts k linked t r.0 r.1 r.2)
+        (order_has ts k linked s c.round r.0 (c.meets_all r.0 (spoke_of ts k linked t r.0 r.1 r.2)))
 
     round_length : length (order_of ts k linked c.round) ≡ length (triangles_at ts k)
     round_length =
-        let most = length-distinct-le (order_of ts k linked c.round) (triangles_at ts k) (distinct_test (order_of ts k linked c.round) (order_distinct ts k linked s c.round))
-        (λ z m. Contains_from (triangles_at ts k) z (round_in z (In_of (order_of ts k linked c.round) z m))) in
+        let most = length-distinct-le (order_of ts k linked c.round) (triangles_at ts k)
+        (distinct_test (order_of ts k linked c.round) (order_distinct ts k linked s c.round))
+        (λ z m. Contains_from (triangles_at ts k) z (round_in z (In_from (order_of ts k linked c.round) z m))) in
         let least = length-distinct-le (triangles_at ts k) (order_of ts k linked c.round) (distinct_test (triangles_at ts k) (triangles_distinct ts k))
-        (λ z m. Contains_from (order_of ts k linked c.round) z (round_has z (In_of (triangles_at ts k) z m))) in
+        (λ z m. Contains_from (order_of ts k linked c.round) z (round_has z (In_from (triangles_at ts k) z m))) in
         omega (arith, most, least)
 
   -- where the spokes form one cycle the triangles do
@@ -98,12 +105,15 @@ module _ (ts : List (List ℕ)) (k : ℕ) (linked : AreLinked ts) where
 
       cycle_from : (t p q : ℕ) → ReadsAt ts k t p q → find (λ x. true) (triangles_at ts k) ≡ Some t → IsSpokeCycle ts k p → IsCycle ts k
       cycle_from t p q r e c =
-          let first : first_triangle ts k ≡ Some (number ts k p) = first_is ts k t (nothing_found (is_start ts k) (triangles_at ts k) never) e ∙ ap Some (sym (only_of_spoke ts k linked t p q r)) in
+          let first : first_triangle ts k ≡ Some (number ts k p) =
+          first_is ts k t (nothing_found (is_start ts k) (triangles_at ts k) never) e ∙ ap Some (sym (only_of_spoke ts k linked t p q r)) in
           let order : walk_from ts k (first_triangle ts k) ≡ order_of ts k linked c.round = ap (walk_from ts k) first ∙ walk_from_order ts k linked p c.round in
           record {
-            no_start = All-from_each (λ u. is_start ts k u ≡ false) (triangles_at ts k) (λ u m. never u (In_of (triangles_at ts k) u m));
+            no_start = All-from_each (λ u. is_start ts k u ≡ false) (triangles_at ts k) (λ u m. never u (In_from (triangles_at ts k) u m));
             closed = closed_from ts k ∙ ap (comes_back ts k) order ∙ round_closes p c;
-            whole = whole_from ts k ∙ ap (λ (l : List ℕ). length l == length (triangles_at ts k)) order ∙ of_equal (length (order_of ts k linked c.round)) (length (triangles_at ts k)) (round_length p c);
+            whole =
+                whole_from ts k ∙ ap (λ (l : List ℕ). length l == length (triangles_at ts k)) order
+                ∙ of_equal (length (order_of ts k linked c.round)) (length (triangles_at ts k)) (round_length p c);
             three = subst (λ (l : List ℕ). 3 ≤ length l) (sym (order_from ts k ∙ order)) (omega (arith, c.three, order_length ts k linked p c.round));
           }
 
@@ -147,9 +157,11 @@ module _ (ts : List (List ℕ)) (k : ℕ) (linked : AreLinked ts) (OfSpoke OfTri
     starts = start_number ts k linked (number ts k path.start) path.start first.0 first.1 path.begins;
     stands = says.to_triangle (number ts k path.start) path.start first.0 first.1 path.stands;
     only = only;
-    ends = ap (next_after ts k) order ∙ after_order ts k linked path.start path.path ∙ next_nowhere ts k linked path.path.newest (path.path.inside path.path.newest (inl refl)) path.ends;
+    ends =
+        ap (next_after ts k) order ∙ after_order ts k linked path.start path.path
+        ∙ next_nowhere ts k linked path.path.newest (path.path.inside path.path.newest (inl refl)) path.ends;
     meets = λ t. (
-      λ m. met t (In_of (order_of ts k linked path.path) t (subst (λ (l : List ℕ). Contains l t) order m)),
+      λ m. met t (In_from (order_of ts k linked path.path) t (subst (λ (l : List ℕ). Contains l t) order m)),
       λ o. subst (λ (l : List ℕ). Contains l t) (sym order) (Contains_from (order_of ts k linked path.path) t (meets t o)),
     );
   }
@@ -162,7 +174,7 @@ module _ (ts : List (List ℕ)) (k : ℕ) (linked : AreLinked ts) (OfSpoke OfTri
 
       only : (t : ℕ) → is_start ts k t ≡ true → OfTriangle t → t ≡ number ts k path.start
       only t e o =
-          let r = triangles_read ts k t (In_of (triangles_at ts k) t (says.at_vertex t o)) in
+          let r = triangles_read ts k t (In_from (triangles_at ts k) t (says.at_vertex t o)) in
           let same : r.0 ≡ path.start = path.one_start r.0 (says.to_spoke t r.0 r.1 r.2 o) (from_start_number ts k linked t r.0 r.1 r.2 e) in
           sym (only_of_spoke ts k linked t r.0 r.1 r.2) ∙ ap (number ts k) same
 
@@ -174,5 +186,6 @@ module _ (ts : List (List ℕ)) (k : ℕ) (linked : AreLinked ts) (OfSpoke OfTri
 
       meets : (t : ℕ) → OfTriangle t → In t (order_of ts k linked path.path)
       meets t o =
-          let r = triangles_read ts k t (In_of (triangles_at ts k) t (says.at_vertex t o)) in
-          subst (λ (u : ℕ). In u (order_of ts k linked path.path)) (only_of_spoke ts k linked t r.0 r.1 r.2) (order_has ts k linked path.start path.path r.0 (path.meets_all r.0 (says.to_spoke t r.0 r.1 r.2 o)))
+          let r = triangles_read ts k t (In_from (triangles_at ts k) t (says.at_vertex t o)) in
+          subst (λ (u : ℕ). In u (order_of ts k linked path.path)) (only_of_spoke ts k linked t r.0 r.1 r.2)
+          (order_has ts k linked path.start path.path r.0 (path.meets_all r.0 (says.to_spoke t r.0 r.1 r.2 o)))

@@ -1,16 +1,20 @@
--- A walk from spoke to spoke gives a walk from triangle to triangle: the numbers of its spokes' triangles in order are what the steps from the first of them meet.
+-- A walk from spoke to spoke gives a walk from triangle to triangle: the numbers of its spokes' triangles in order are what the steps from the first
+-- of them meet.
 use Rattle.std.specs.Prelude.{◌≡◌, ◌+◌, ◌⊎◌, ℕ, zero, suc, List, [], ◌∷◌, length, Option, Some, None, slice_index_or, option_and_then, ⊤}
 use Rattle.std.specs.List.{AllAdjacentBelow, last_or}
 use Rattle.std.proofs.Common.{refl, ap, sym, ◌∙◌, subst, arith, inl, inr}
 use Rattle.iso_model.specs.Walks.{next_at, next_after, triangles_at, walk_from, IsWalk}
 use Rattle.iso_model.proofs.WalkLaws.{walk_from-fixed}
-use Rattle.mesh_laws.proofs.Sorting.{Distinct}
-use Rattle.mesh_laws.proofs.Members.{In, Contains_from}
-use Rattle.mesh_laws.proofs.FaceSigns.{distinct_test}
 use Rattle.link_laws.proofs.Walks.{Chain, Walk, start_in}
 use Rattle.link_laws.proofs.Links.{AreLinked, next, spokes}
-use Rattle.link_laws.proofs.TrianglesAt.{number, triangles_have, never_there, not_there}
+use Rattle.link_laws.proofs.TrianglesAt.{number, triangles_have}
 use Rattle.link_laws.proofs.TrianglesOnce.{next_number, next_nowhere, number_differs, of_spoke}
+use Rattle.lists.specs.Members.{In, Distinct}
+use Rattle.lists.proofs.MemberLaws.{Contains_from}
+use Rattle.lists.proofs.Counts.{never_there, not_there}
+use Rattle.lists.proofs.DistinctLists.{distinct_test}
+use Rattle.std.proofs.lemmas.Option.{same_Some}
+use Rattle.lists.proofs.Tests.{next_place}
 
 -- ---- a list turned over, with the values of a function in place of its members
 
@@ -44,7 +48,8 @@ turned_over-last : (f : ℕ → ℕ) (xs : List ℕ) (t : ℕ) (others : List �
 turned_over-last f [] t others = refl
 turned_over-last f (x ∷ xs) t others = turned_over-last f xs (f x) (t ∷ others)
 
-turned_over-distinct : (f : ℕ → ℕ) (xs others : List ℕ) → Distinct xs → ((x y : ℕ) → In x xs → In y xs → f x ≡ f y → x ≡ y) → Distinct others → ((x : ℕ) → In x xs → In (f x) others → ⊥)
+turned_over-distinct : (f : ℕ → ℕ) (xs others : List ℕ) → Distinct xs → ((x y : ℕ) → In x xs → In y xs → f x ≡ f y → x ≡ y) → Distinct others
+    → ((x : ℕ) → In x xs → In (f x) others → ⊥)
     → Distinct (turned_over f xs others)
 turned_over-distinct f [] others d apart e new = e
 turned_over-distinct f (x ∷ xs) others d apart e new =
@@ -61,17 +66,13 @@ abbrev pub Goes : List (List ℕ) → ℕ → ℕ → List ℕ → Type 0
 Goes ts k t [] = ⊤
 Goes ts k t (u ∷ others) = (next_at ts k t ≡ Some u) × Goes ts k u others
 
-next_place : (i : ℕ) → suc (i + 1) ≡ suc i + 1
-next_place i = omega arith
-
-goes_on : (ts : List (List ℕ)) (k t : ℕ) (others : List ℕ) → Goes ts k t others → AllAdjacentBelow (λ u v. next_at ts k u ≡ Some v) (t ∷ others) (length (t ∷ others))
+goes_on : (ts : List (List ℕ)) (k t : ℕ) (others : List ℕ) → Goes ts k t others
+    → AllAdjacentBelow (λ u v. next_at ts k u ≡ Some v) (t ∷ others) (length (t ∷ others))
 goes_on ts k t [] g i d h = absurd (omega (arith, h))
 goes_on ts k t (u ∷ others) g zero d h = g.0
 goes_on ts k t (u ∷ others) g (suc i) d h =
-    subst (λ (n : ℕ). next_at ts k (slice_index_or (u ∷ others) i d) ≡ Some (slice_index_or (t ∷ u ∷ others) n d)) (next_place i) (goes_on ts k u others g.1 i d (omega (arith, h)))
-
-same_some : (u v : ℕ) → Some u ≡ Some v → u ≡ v
-same_some u v e = cc
+    subst (λ (n : ℕ). next_at ts k (slice_index_or (u ∷ others) i d) ≡ Some (slice_index_or (t ∷ u ∷ others) n d)) (next_place i)
+    (goes_on ts k u others g.1 i d (omega (arith, h)))
 
 module _ (ts : List (List ℕ)) (k : ℕ) (linked : AreLinked ts) where
   -- the triangle numbers of what a walk met, in order
@@ -99,12 +100,14 @@ module _ (ts : List (List ℕ)) (k : ℕ) (linked : AreLinked ts) where
     from_order t i = elim (from_turned_over (number ts k) (w.newest ∷ w.earlier) [] t i) [ inl r ↦ r | inr n ↦ absurd n ]
 
     pub order_distinct : Distinct (order_of w)
-    order_distinct = turned_over-distinct (number ts k) (w.newest ∷ w.earlier) [] w.distinct (λ x y i j e. number_differs ts k linked x y (w.inside x i) (w.inside y j) e) tt (λ x i n. n)
+    order_distinct =
+        turned_over-distinct (number ts k) (w.newest ∷ w.earlier) [] w.distinct
+        (λ x y i j e. number_differs ts k linked x y (w.inside x i) (w.inside y j) e) tt (λ x i n. n)
 
     order_ends : (u : ℕ) → next_after ts k (order_of w) ≡ Some u → In u (order_of w)
     order_ends u e = elim w.ends [
       | inl none ↦ (let stop = next_nowhere ts k linked w.newest (w.inside w.newest (inl refl)) none in absurd (clash (sym stop ∙ sym after_order ∙ e)))
-      | inr back ↦ (let same : number ts k s ≡ u = same_some (number ts k s) u (sym (next_number ts k linked w.newest s back) ∙ sym after_order ∙ e) in
+      | inr back ↦ (let same : number ts k s ≡ u = same_Some (number ts k s) u (sym (next_number ts k linked w.newest s back) ∙ sym after_order ∙ e) in
           subst (λ (t : ℕ). In t (order_of w)) same (order_has s (start_in (next k ts) s w.newest w.earlier w.chain)))
     ]
       where
@@ -126,4 +129,6 @@ module _ (ts : List (List ℕ)) (k : ℕ) (linked : AreLinked ts) where
     pub walk_from_order : walk_from ts k (Some (number ts k s)) ≡ order_of w
     walk_from_order =
         let a = of_spoke ts k linked s (w.inside s (start_in (next k ts) s w.newest w.earlier w.chain)) in
-        sym (walk_from-fixed ts k (number ts k s) (order_of w) (Contains_from (triangles_at ts k) (number ts k s) (triangles_have ts k (number ts k s) s a.0 a.1)) order_is_walk)
+        sym
+        (walk_from-fixed ts k (number ts k s) (order_of w)
+        (Contains_from (triangles_at ts k) (number ts k s) (triangles_have ts k (number ts k s) s a.0 a.1)) order_is_walk)

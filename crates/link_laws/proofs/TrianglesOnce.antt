@@ -3,19 +3,16 @@ use Rattle.std.specs.Prelude.{◌≡◌, ◌≢◌, ◌<◌, ◌≤◌, ◌+◌,
 use Rattle.std.proofs.Common.{refl, ap, sym, ◌∙◌, subst, arith, inl, inr}
 use Rattle.std.proofs.lemmas.Bool.{cases_eq}
 use Rattle.iso_model.specs.Walks.{turned, next_at, is_start}
-use Rattle.mesh_laws.proofs.Sorting.{bit, count_by-cons}
-use Rattle.mesh_laws.proofs.Members.{In, count_some}
 use Rattle.mesh_laws.proofs.FaceSigns.{has_signed}
 use Rattle.link_laws.proofs.Readings.{Reading, pair, leaving, leaves, enters, from_turned}
 use Rattle.link_laws.proofs.Links.{AreLinked, next, spokes, from_next, from_out, from_spokes, In-spokes, next_is}
 use Rattle.link_laws.proofs.TrianglesAt.{ReadsAt, OneByOne, number, number_is, reads_once, next_is_at, from_next_at, start_where, from_start}
+use Rattle.lists.specs.Members.{In}
+use Rattle.lists.proofs.Sorting.{bit, count_by-cons}
+use Rattle.lists.proofs.Counts.{count_some}
+use Rattle.lists.proofs.MemberLaws.{In_place}
 
 -- ---- members by their places
-
-In_at : (ws : List (List ℕ)) (i : ℕ) → i < length ws → In (slice_index_or ws i []) ws
-In_at [] i h = absurd (omega (arith, h))
-In_at (w ∷ ws) zero h = inl refl
-In_at (w ∷ ws) (suc i) h = inr (In_at ws i (omega (arith, h)))
 
 place_of : (ws : List (List ℕ)) (w : List ℕ) → In w ws → (i : ℕ) × (i < length ws) × (slice_index_or ws i [] ≡ w)
 place_of [] w i = absurd i
@@ -23,17 +20,19 @@ place_of (v ∷ ws) w (inl e) = (0, omega arith, sym e)
 place_of (v ∷ ws) w (inr i) = let r = place_of ws w i in (suc r.0, omega (arith, r.1), r.2)
 
 -- members at two places that pass count as two
-two_places : (p : List ℕ → Bool) (ws : List (List ℕ)) (i j : ℕ) → i < length ws → j < length ws → p (slice_index_or ws i []) ≡ true → p (slice_index_or ws j []) ≡ true → i ≢ j → 2 ≤ count_by p ws
+two_places : (p : List ℕ → Bool) (ws : List (List ℕ)) (i j : ℕ) → i < length ws → j < length ws → p (slice_index_or ws i []) ≡ true
+    → p (slice_index_or ws j []) ≡ true → i ≢ j → 2 ≤ count_by p ws
 two_places p [] i j hi hj a b differ = absurd (omega (arith, hi))
 two_places p (w ∷ ws) zero zero hi hj a b differ = absurd (differ refl)
 two_places p (w ∷ ws) zero (suc j) hi hj a b differ =
-    omega (arith, count_by-cons p w ws, ap bit a, count_some p ws (slice_index_or ws j []) (In_at ws j (omega (arith, hj))) b)
+    omega (arith, count_by-cons p w ws, ap bit a, count_some p ws (slice_index_or ws j []) (In_place ws j (omega (arith, hj))) b)
 two_places p (w ∷ ws) (suc i) zero hi hj a b differ =
-    omega (arith, count_by-cons p w ws, ap bit b, count_some p ws (slice_index_or ws i []) (In_at ws i (omega (arith, hi))) a)
+    omega (arith, count_by-cons p w ws, ap bit b, count_some p ws (slice_index_or ws i []) (In_place ws i (omega (arith, hi))) a)
 two_places p (w ∷ ws) (suc i) (suc j) hi hj a b differ =
     omega (arith, count_by-cons p w ws, two_places p ws i j (omega (arith, hi)) (omega (arith, hj)) a b (λ e. differ (ap suc e)))
 
-one_place : (p : List ℕ → Bool) (ws : List (List ℕ)) (i j : ℕ) → count_by p ws ≤ 1 → i < length ws → j < length ws → p (slice_index_or ws i []) ≡ true → p (slice_index_or ws j []) ≡ true → i ≡ j
+one_place : (p : List ℕ → Bool) (ws : List (List ℕ)) (i j : ℕ) → count_by p ws ≤ 1 → i < length ws → j < length ws → p (slice_index_or ws i []) ≡ true
+    → p (slice_index_or ws j []) ≡ true → i ≡ j
 one_place p ws i j few hi hj a b = elim (cases_eq i j) [
   | inl e ↦ e
   | inr differ ↦ absurd (omega (arith, few, two_places p ws i j hi hj a b differ))
@@ -48,12 +47,12 @@ module _ (ts : List (List ℕ)) (k : ℕ) (linked : AreLinked ts) where
   one_by_one = record {
     leaves = λ t u p q r a b.
         one_place (has_signed (leaving k p) (pair k p)) ts t u (linked.few (leaving k p) (pair k p)) a.0 b.0
-        (leaves k p q (reading_of t p q a) (linked.distinct (slice_index_or ts t []) (In_at ts t a.0)))
-        (leaves k p r (reading_of u p r b) (linked.distinct (slice_index_or ts u []) (In_at ts u b.0)));
+        (leaves k p q (reading_of t p q a) (linked.distinct (slice_index_or ts t []) (In_place ts t a.0)))
+        (leaves k p r (reading_of u p r b) (linked.distinct (slice_index_or ts u []) (In_place ts u b.0)));
     enters = λ t u p q r a b.
         one_place (has_signed (leaving k p + 1) (pair k p)) ts t u (linked.few (leaving k p + 1) (pair k p)) a.0 b.0
-        (enters k q p (reading_of t q p a) (linked.distinct (slice_index_or ts t []) (In_at ts t a.0)))
-        (enters k r p (reading_of u r p b) (linked.distinct (slice_index_or ts u []) (In_at ts u b.0)));
+        (enters k q p (reading_of t q p a) (linked.distinct (slice_index_or ts t []) (In_place ts t a.0)))
+        (enters k r p (reading_of u r p b) (linked.distinct (slice_index_or ts u []) (In_place ts u b.0)));
   }
 
   -- ---- a spoke and its triangle
@@ -63,7 +62,7 @@ module _ (ts : List (List ℕ)) (k : ℕ) (linked : AreLinked ts) where
 
   -- a triangle that reads (k, p, q) has the spoke p
   pub spoke_of : (t p q : ℕ) → ReadsAt ts k t p q → In p (spokes k ts)
-  spoke_of t p q r = In-spokes k ts (slice_index_or ts t []) p q (In_at ts t r.0) r.1
+  spoke_of t p q r = In-spokes k ts (slice_index_or ts t []) p q (In_place ts t r.0) r.1
 
   -- a spoke has a triangle, and `number` is its number
   pub of_spoke : (p : ℕ) → In p (spokes k ts) → (q : ℕ) × ReadsAt ts k (number ts k p) p q
@@ -98,18 +97,13 @@ module _ (ts : List (List ℕ)) (k : ℕ) (linked : AreLinked ts) where
       )
 
   pub leads : (t u x y r : ℕ) → ReadsAt ts k t x y → ReadsAt ts k u y r → next k ts x ≡ Some y
-  leads t u x y r a b = next_is k ts linked (slice_index_or ts t []) (slice_index_or ts u []) x y r (In_at ts t a.0) (In_at ts u b.0) (reading_of t x y a) (reading_of u y r b)
+  leads t u x y r a b =
+      next_is k ts linked (slice_index_or ts t []) (slice_index_or ts u []) x y r (In_place ts t a.0) (In_place ts u b.0) (reading_of t x y a)
+      (reading_of u y r b)
 
   -- where spoke leads to spoke, triangle leads to triangle
   pub next_number : (x y : ℕ) → next k ts x ≡ Some y → next_at ts k (number ts k x) ≡ Some (number ts k y)
   next_number x y e = let l = led x y e in next_is_at ts k one_by_one (number ts k x) (number ts k y) x y l.1.0 l.0 l.1.1
-
-  -- and where triangle leads to triangle, spoke leads to spoke
-  pub from_next_number : (t u x y p q : ℕ) → ReadsAt ts k t x p → ReadsAt ts k u y q → next_at ts k t ≡ Some u → next k ts x ≡ Some y
-  from_next_number t u x y p q a b e =
-      let n = from_next_at ts k t x p u a e in
-      let same : p ≡ y = (reads_once ts k u p n.0 y q n.1 b).0 in
-      leads t u x y q (subst (λ (z : ℕ). ReadsAt ts k t x z) same a) b
 
   -- where a spoke leads nowhere, its triangle does
   pub next_nowhere : (x : ℕ) → In x (spokes k ts) → next k ts x ≡ None → next_at ts k (number ts k x) ≡ None

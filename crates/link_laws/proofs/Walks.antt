@@ -1,10 +1,13 @@
 -- Walks along a step that never leads from two members to one: each ends, or comes back to its start, and it meets all that is joined to it.
-use Rattle.std.proofs.Common.{◌≡◌, ℕ, zero, suc, ◌+◌, ◌≤◌, Bool, true, false, List, [], ◌∷◌, length, Option, Some, None, refl, ap, sym, ◌∙◌, subst, arith, inl, inr}
+use Rattle.std.proofs.Common.{◌≡◌, ℕ, zero, suc, ◌+◌, ◌≤◌, Bool, true, false, List, [], ◌∷◌, length, Option, Some, None, refl, ap, sym, ◌∙◌, subst}
+use Rattle.std.proofs.Common.{arith, inl, inr}
 use Rattle.std.specs.Prelude.{count_by, ◌≢◌, ◌⊎◌, nat_eq}
 use Rattle.std.proofs.lemmas.Bool.{cases_eq}
 use Rattle.std.proofs.lemmas.Bool.Decides.{nat_tests}
-use Rattle.mesh_laws.proofs.Sorting.{bit, count_by-cons, Distinct}
-use Rattle.mesh_laws.proofs.Members.{In, count_some}
+use Rattle.lists.specs.Members.{In, Distinct}
+use Rattle.lists.proofs.Sorting.{bit, count_by-cons}
+use Rattle.lists.proofs.Counts.{apart}
+use Rattle.std.proofs.lemmas.Option.{same_Some}
 
 -- ---- lengths
 
@@ -14,12 +17,6 @@ remove_once x (y ∷ xs) (inl e) = (xs, refl, λ z i differ. elim i [ inl s ↦ 
 remove_once x (y ∷ xs) (inr i) =
     let r = remove_once x xs i in
     (y ∷ r.0, ap suc r.1, λ z j differ. elim j [ inl s ↦ inl s | inr k ↦ inr (r.2 z k differ) ])
-
-apart : (x y : ℕ) (xs : List ℕ) → count_by (nat_eq x) xs ≡ 0 → In y xs → y ≢ x
-apart x y xs none i e =
-    let same : nat_eq x y ≡ true = grind (arith, nat_tests) in
-    let some : 1 ≤ count_by (nat_eq x) xs = count_some (nat_eq x) xs y i same in
-    absurd (omega (arith, some, none))
 
 -- a list of distinct members of xs is at most as long as xs
 pub no_longer : (ws xs : List ℕ) → Distinct ws → ((x : ℕ) → In x ws → In x xs) → length ws ≤ length xs
@@ -85,7 +82,8 @@ module _ (next : ℕ → Option ℕ) where
     abbrev Grows : ℕ → Type 0
     Grows fuel = (y : ℕ) (w : List ℕ) → Chain s (y ∷ w) → Distinct (y ∷ w) → ((x : ℕ) → In x (y ∷ w) → In x xs) → length xs ≤ fuel + length w → Walk xs s
 
-    grow_case : (fuel : ℕ) → Grows fuel → (y : ℕ) (w : List ℕ) → Chain s (y ∷ w) → Distinct (y ∷ w) → ((x : ℕ) → In x (y ∷ w) → In x xs) → length xs ≤ suc fuel + length w →
+    grow_case : (fuel : ℕ) → Grows fuel → (y : ℕ) (w : List ℕ) → Chain s (y ∷ w) → Distinct (y ∷ w) → ((x : ℕ) → In x (y ∷ w) → In x xs)
+        → length xs ≤ suc fuel + length w →
         (o : Option ℕ) → next y ≡ o → Walk xs s
     grow_case fuel go y w chain d inside room None is = record { newest = y; earlier = w; chain = chain; distinct = d; inside = inside; ends = inl is }
     grow_case fuel go y w chain d inside room (Some z) is = elim (cases_eq z s) [
@@ -93,7 +91,10 @@ module _ (next : ℕ → Option ℕ) where
       | inr differ ↦ (elim (met_or z (y ∷ w)) [
         | inl met ↦ (let u = come_from s y w chain z met differ in
             absurd (apart y u.0 w d.0 u.1 (steps.once u.0 y z (inside u.0 (inr u.1)) (inside y (inl refl)) u.2 is)))
-        | inr fresh ↦ go z (y ∷ w) (is, chain) (fresh, d) (λ x i. elim i [ inl e ↦ subst (λ (v : ℕ). In v xs) (sym e) (steps.stays y z (inside y (inl refl)) is) | inr j ↦ inside x j ]) (omega (arith, room))
+        | inr fresh ↦
+            go z (y ∷ w) (is, chain) (fresh, d)
+            (λ x i. elim i [ inl e ↦ subst (λ (v : ℕ). In v xs) (sym e) (steps.stays y z (inside y (inl refl)) is) | inr j ↦ inside x j ])
+            (omega (arith, room))
       ])
     ]
 
@@ -113,7 +114,9 @@ module _ (next : ℕ → Option ℕ) where
       pub next_met : (u v : ℕ) → In u met → next u ≡ Some v → In v met
       next_met u v (inl e) is = elim w.ends [
         | inl none ↦ (let k : next w.newest ≡ Some v = subst (λ (x : ℕ). next x ≡ Some v) e is in absurd (clash (next w.newest) none k))
-        | inr back ↦ (let k : next w.newest ≡ Some v = subst (λ (x : ℕ). next x ≡ Some v) e is in subst (λ (x : ℕ). In x met) (some_is s v (next w.newest) back k) (start_in s w.newest w.earlier w.chain))
+        | inr back ↦
+            (let k : next w.newest ≡ Some v = subst (λ (x : ℕ). next x ≡ Some v) e is in
+            subst (λ (x : ℕ). In x met) (some_is s v (next w.newest) back k) (start_in s w.newest w.earlier w.chain))
       ]
         where
           clash : (o : Option ℕ) → o ≡ None → o ≡ Some v → ⊥
@@ -139,7 +142,8 @@ pub data Joined (next : ℕ → Option ℕ) (xs : List ℕ) : ℕ → ℕ → Ty
   on : {x y z : ℕ} → next x ≡ Some y → Joined next xs y z → Joined next xs x z
   back : {x y z : ℕ} → In y xs → next y ≡ Some x → Joined next xs y z → Joined next xs x z
 
-module _ (next : ℕ → Option ℕ) (xs : List ℕ) (steps : IsInjection next xs) (s : ℕ) (w : Walk next xs s) (begins : ((u : ℕ) → In u xs → next u ≢ Some s) ⊎ (next w.newest ≡ Some s)) where
+module _ (next : ℕ → Option ℕ) (xs : List ℕ) (steps : IsInjection next xs) (s : ℕ) (w : Walk next xs s)
+    (begins : ((u : ℕ) → In u xs → next u ≢ Some s) ⊎ (next w.newest ≡ Some s)) where
   -- the walk meets all that is joined to what it meets
   pub meets_joined : {x y : ℕ} → Joined next xs x y → In x (w.newest ∷ w.earlier) → In y (w.newest ∷ w.earlier)
   meets_joined itself i = i
@@ -169,16 +173,13 @@ module _ (next : ℕ → Option ℕ) where
   is_leads : (y : ℕ) (o : Option ℕ) → o ≡ Some y → leads y o ≡ true
   is_leads y o e = let h : nat_eq y y ≡ true = grind (arith, nat_tests) in subst (λ (v : Option ℕ). leads y v ≡ true) (sym e) h
 
-  some_eq : (a b : ℕ) → Some a ≡ Some b → a ≡ b
-  some_eq a b h = cc
-
   -- an option is not both with a value and without
   pub some_none : (P : Type 0) (a : ℕ) → Some a ≡ None → P
   some_none P a h = cc
 
   from_before_case : (xs : List ℕ) (x y z : ℕ) → (before xs y ≡ Some z → In z xs × (next z ≡ Some y)) → (b : Bool) → leads y (next x) ≡ b →
       pick b x (before xs y) ≡ Some z → In z (x ∷ xs) × (next z ≡ Some y)
-  from_before_case xs x y z later true is e = let s = some_eq x z e in (inl (sym s), subst (λ (v : ℕ). next v ≡ Some y) s (leads_is y (next x) is))
+  from_before_case xs x y z later true is e = let s = same_Some x z e in (inl (sym s), subst (λ (v : ℕ). next v ≡ Some y) s (leads_is y (next x) is))
   from_before_case xs x y z later false is e = let r = later e in (inr r.0, r.1)
 
   -- what it finds is a member that leads to y
@@ -186,7 +187,8 @@ module _ (next : ℕ → Option ℕ) where
   from_before [] y z e = some_none _ z (sym e)
   from_before (x ∷ xs) y z e = from_before_case xs x y z (from_before xs y z) (leads y (next x)) refl e
 
-  before_none_case : (xs : List ℕ) (x y z : ℕ) → (before xs y ≡ None → In z xs → next z ≢ Some y) → (b : Bool) → leads y (next x) ≡ b → pick b x (before xs y) ≡ None → In z (x ∷ xs) → next z ≢ Some y
+  before_none_case : (xs : List ℕ) (x y z : ℕ) → (before xs y ≡ None → In z xs → next z ≢ Some y) → (b : Bool) → leads y (next x) ≡ b
+      → pick b x (before xs y) ≡ None → In z (x ∷ xs) → next z ≢ Some y
   before_none_case xs x y z later true is e i h = some_none ⊥ x e
   before_none_case xs x y z later false is e (inl s) h = let c : true ≡ false = sym (is_leads y (next x) (ap next (sym s) ∙ h)) ∙ is in cc
   before_none_case xs x y z later false is e (inr i) h = later e i h
@@ -200,7 +202,7 @@ module _ (next : ℕ → Option ℕ) where
     before_injection : IsInjection (before xs) xs
     before_injection = record {
       stays = λ x y i e. (from_before xs x y e).0;
-      once = λ x z y i j e f. some_eq x z (sym (from_before xs x y e).1 ∙ (from_before xs z y f).1);
+      once = λ x z y i j e f. same_Some x z (sym (from_before xs x y e).1 ∙ (from_before xs z y f).1);
     }
 
     before_is : (x y : ℕ) → next x ≡ Some y → before xs y ≡ Some x
@@ -266,7 +268,14 @@ module _ (next : ℕ → Option ℕ) where
     outcome y i =
         let w : Walk (before xs) xs y = walk (before xs) xs before_injection y i in
         elim w.ends [
-          | inl none ↦ inr (record { start = w.newest; is_member = w.inside w.newest (inl refl); begins = λ u j. before_none xs w.newest u none j; reaches = chain_back y w.newest w.earlier w.chain })
+          | inl none ↦
+              inr
+              (record {
+                start = w.newest;
+                is_member = w.inside w.newest (inl refl);
+                begins = λ u j. before_none xs w.newest u none j;
+                reaches = chain_back y w.newest w.earlier w.chain;
+              })
           | inr came ↦ inl (forward y i w came)
         ]
       where

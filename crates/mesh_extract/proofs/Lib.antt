@@ -1,2 +1,2 @@
 mod Accepted
-pub mod Surfaces
+pub mod PlacedSurfaces

@@ -4,15 +4,18 @@ use Rattle.std.specs.Prelude.{map, count_by, nat_lt, nat_le, slice_index, pos, �
 use Rattle.std.specs.List.Sorted.{IsStrictlyIncreasing}
 use Rattle.std.proofs.lemmas.Int.{ints}
 use Rattle.std.proofs.lemmas.Bool.Decides.{nat_tests}
-use Rattle.iso_model.specs.Orders.{without, inversions, sorted, put_in, is_odd, is_distinct, exchange_last}
+use Rattle.lists.specs.Orders.{without, inversions, sorted, put_in, is_odd, is_distinct, exchange_last}
 use Rattle.iso_model.specs.Turns.{signed}
 use Rattle.iso_model.specs.Faces.{face_without, has_face, sign_of_face, face_count, face_sum}
-use Rattle.mesh_laws.proofs.Sorting.{bit, count_by-cons, Distinct, leb_or}
-use Rattle.mesh_laws.proofs.Members.{In, count_none}
-use Rattle.mesh_laws.proofs.FaceSigns.{Each, Each-In, Each-from_In, Each-put_in, from_distinct_test}
-use Rattle.mesh_laws.proofs.Taking.{Ascends, enters_first, from_In-sorted, not_In_of_count, Takes-apart, Takes-length}
-use Rattle.mesh_laws.proofs.FaceOf.{place_takes}
-use Rattle.mesh_laws.proofs.SignedFaces.{has_face-exchange, sign-exchange, has_face-map, sign-map}
+use Rattle.mesh_laws.proofs.FaceSigns.{Each-put_in}
+use Rattle.mesh_laws.proofs.TakenMembers.{enters_first, from_In-sorted, Takes-apart, Takes-length}
+use Rattle.mesh_laws.proofs.FaceOf.{place_takes, sign_none}
+use Rattle.mesh_laws.proofs.SignedFaces.{sign-exchange, sign-map}
+use Rattle.lists.specs.Members.{In, Each, Distinct, Ascends}
+use Rattle.lists.proofs.MemberLaws.{Each-In, Each-from_In}
+use Rattle.lists.proofs.Sorting.{bit, count_by-cons, leb_or}
+use Rattle.lists.proofs.Counts.{count_none, not_there}
+use Rattle.lists.proofs.DistinctLists.{from_distinct_test}
 
 -- ---- ascending lists
 
@@ -39,7 +42,8 @@ ascends_by_steps (x ∷ y ∷ ys) a (suc k) h =
     let next : suc (k + 1) ≡ suc k + 1 = omega arith in
     subst (λ (n : ℕ). slice_index (y ∷ ys) k < slice_index (x ∷ y ∷ ys) n) next (ascends_by_steps (y ∷ ys) a.1 k (omega (arith, h)))
 
-enters_case : (x y : ℕ) (ys : List ℕ) → (In x (y ∷ ys) → ⊥) → Ascends (y ∷ ys) → Ascends (put_in x ys) → ((nat_le x y ≡ true) × (x ≤ y)) ⊎ ((nat_le x y ≡ false) × (y < x)) → Ascends (put_in x (y ∷ ys))
+enters_case : (x y : ℕ) (ys : List ℕ) → (In x (y ∷ ys) → ⊥) → Ascends (y ∷ ys) → Ascends (put_in x ys)
+    → ((nat_le x y ≡ true) × (x ≤ y)) ⊎ ((nat_le x y ≡ false) × (y < x)) → Ascends (put_in x (y ∷ ys))
 enters_case x y ys free a more (inl low) =
     let apart : x ≡ y → ⊥ = λ e. free (inl e) in
     let less : x < y = grind arith in
@@ -53,7 +57,7 @@ enters_ascending x (y ∷ ys) free a = enters_case x y ys free a (enters_ascendi
 
 pub sorted_ascends : (xs : List ℕ) → Distinct xs → Ascends (sorted xs)
 sorted_ascends [] d = tt
-sorted_ascends (x ∷ xs) d = enters_ascending x (sorted xs) (λ i. not_In_of_count x xs d.0 (from_In-sorted x xs i)) (sorted_ascends xs d.1)
+sorted_ascends (x ∷ xs) d = enters_ascending x (sorted xs) (λ i. not_there x xs d.0 (from_In-sorted x xs i)) (sorted_ascends xs d.1)
 
 -- each face of a simplex ascends
 pub face_ascends : (w : List ℕ) (i : ℕ) → is_distinct w ≡ true → i < length w → Ascends (face_without w i)
@@ -79,16 +83,6 @@ length_face w i h = omega (arith, length-sorted (without i w), Takes-length (pla
 abbrev pub AreLong : List (List ℕ) → Type 0
 AreLong ws = (w : List ℕ) → In w ws → 2 ≤ length w
 
-pub face_count-exchange : (ws : List (List ℕ)) (face : List ℕ) → AreLong ws → face_count (map exchange_last ws) face ≡ face_count ws face
-face_count-exchange [] face long = refl
-face_count-exchange (w ∷ ws) face long = omega (
-  arith,
-  count_by-cons (has_face face) (exchange_last w) (map exchange_last ws),
-  count_by-cons (has_face face) w ws,
-  ap bit (has_face-exchange face w (long w (inl refl))),
-  face_count-exchange ws face (λ v i. long v (inr i)),
-)
-
 pub face_sum-exchange : (ws : List (List ℕ)) (face : List ℕ) → AreLong ws → face_sum (map exchange_last ws) face ≡ neg_ℤ (face_sum ws face)
 face_sum-exchange [] face long = refl
 face_sum-exchange (w ∷ ws) face long = omega (arith, ints, sign-exchange face w (long w (inl refl)), face_sum-exchange ws face (λ v i. long v (inr i)))
@@ -99,17 +93,6 @@ signed_sum false x y z e = omega (arith, ints)
 
 -- a map of the numbers that can be undone
 module _ (f g : ℕ → ℕ) (D : ℕ → Type 0) (back : (x : ℕ) → D x → g (f x) ≡ x) where
-  pub face_count-map : (ws : List (List ℕ)) (face : List ℕ) → sorted face ≡ face → Each D face → ((w : List ℕ) → In w ws → Each D w)
-      → face_count (map (λ w. map f w) ws) (sorted (map f face)) ≡ face_count ws face
-  face_count-map [] face ascends in_face in_ws = refl
-  face_count-map (w ∷ ws) face ascends in_face in_ws = omega (
-    arith,
-    count_by-cons (has_face (sorted (map f face))) (map f w) (map (λ v. map f v) ws),
-    count_by-cons (has_face face) w ws,
-    ap bit (has_face-map f g D back face w ascends in_face (in_ws w (inl refl))),
-    face_count-map ws face ascends in_face (λ v i. in_ws v (inr i)),
-  )
-
   pub face_sum-map : (ws : List (List ℕ)) (face : List ℕ) → sorted face ≡ face → Each D face → ((w : List ℕ) → In w ws → Each D w)
       → face_sum (map (λ w. map f w) ws) (sorted (map f face)) ≡ signed (is_odd (inversions (map f face))) (face_sum ws face)
   face_sum-map [] face ascends in_face in_ws = zero (is_odd (inversions (map f face)))
@@ -119,4 +102,18 @@ module _ (f g : ℕ → ℕ) (D : ℕ → Type 0) (back : (x : ℕ) → D x → 
       zero false = refl
   face_sum-map (w ∷ ws) face ascends in_face in_ws =
       ap (λ (z : ℤ). z +ℤ face_sum (map (λ v. map f v) ws) (sorted (map f face))) (sign-map f g D back face w ascends in_face (in_ws w (inl refl)))
-      ∙ signed_sum (is_odd (inversions (map f face))) (sign_of_face face w) (face_sum ws face) (face_sum (map (λ v. map f v) ws) (sorted (map f face))) (face_sum-map ws face ascends in_face (λ v i. in_ws v (inr i)))
+      ∙ signed_sum (is_odd (inversions (map f face))) (sign_of_face face w) (face_sum ws face)
+      (face_sum (map (λ v. map f v) ws) (sorted (map f face))) (face_sum-map ws face ascends in_face (λ v i. in_ws v (inr i)))
+
+pub zero_sum : (x y : ℤ) → x ≡ pos 0 → y ≡ pos 0 → x +ℤ y ≡ pos 0
+zero_sum x y e f = omega (arith, ints)
+
+pub no_faces : (ws : List (List ℕ)) (face : List ℕ) → face_count ws face ≡ 0 → face_sum ws face ≡ pos 0
+no_faces [] face h = refl
+no_faces (w ∷ ws) face h =
+    let first : has_face face w ≡ false = zero_bit (has_face face w) (omega (arith, h, count_by-cons (has_face face) w ws)) in
+    zero_sum (sign_of_face face w) (face_sum ws face) (sign_none face w first) (no_faces ws face (omega (arith, h, count_by-cons (has_face face) w ws)))
+  where
+    zero_bit : (b : Bool) → bit b ≡ 0 → b ≡ false
+    zero_bit true e = absurd (omega (arith, e))
+    zero_bit false e = refl

@@ -1,52 +1,33 @@
 -- A simplex has a face where it has all numbers of it; the sign of the face is told by the number that the face leaves out.
-use Rattle.std.proofs.Common.{◌≡◌, ℕ, zero, suc, ◌+◌, ◌<◌, ◌≤◌, Bool, true, false, ◌&&◌, List, [], ◌∷◌, ◌++◌, length, take, get_or, ℤ, pos, negsuc, unsigned_abs, ◌+ℤ◌, refl, ap, sym, ◌∙◌, subst, arith, inl, inr}
-use Rattle.std.specs.Prelude.{map, count_by, ◌≢◌, ◌%◌, ◌==◌, nat_eq, nat_lt, slice_index, ◌⊎◌, if◌then◌else◌}
+use Rattle.std.proofs.Common.{◌≡◌, ℕ, zero, suc, ◌+◌, ◌<◌, ◌≤◌, Bool, true, false, List, [], ◌∷◌, length, take, get_or, ℤ, pos, negsuc}
+use Rattle.std.proofs.Common.{unsigned_abs, ◌+ℤ◌, refl, ap, sym, ◌∙◌, subst, arith, inl, inr}
+use Rattle.std.specs.Prelude.{map, count_by, ◌≢◌, ◌%◌, ◌==◌, nat_eq, nat_lt, ◌⊎◌, if◌then◌else◌}
 use Rattle.std.specs.List.{list_any, range_with_len}
-use Rattle.std.specs.List.Sorted.{IsStrictlyIncreasing}
 use Rattle.std.proofs.lemmas.Int.{ints}
 use Rattle.std.proofs.lemmas.List.{take_more, map-append}
 use Rattle.std.proofs.lemmas.Bool.Decides.{nat_tests}
 use Rattle.std.proofs.lemmas.Slice.Eq.{bytes_eq-Decides}
-use Rattle.iso_model.specs.Orders.{numbers, without, inversions, is_odd, sorted, has, is_distinct, same_list}
+use Rattle.lists.specs.Orders.{numbers, without, inversions, is_odd, sorted, has, is_distinct, same_list}
 use Rattle.iso_model.specs.Turns.{total, signed}
 use Rattle.iso_model.specs.Faces.{face_without, sign_without, has_face, sign_of_face}
-use Rattle.iso_model.proofs.Deciding.{any_default, below_contained, contained_below}
-use Rattle.mesh_laws.proofs.Sorting.{bit, count_by-cons, Distinct}
-use Rattle.mesh_laws.proofs.Members.{In, In_from, Contains_from, from_any, any_from}
-use Rattle.mesh_laws.proofs.FaceSigns.{not_true, and_left, and_right, from_distinct_test}
-use Rattle.mesh_laws.proofs.Taking.{Takes, here, later, Takes-In, Takes-In_left, Takes-In_taken, Takes-count, Takes-apart, In-sorted, from_In-sorted, not_In_of_count, Ascends, one_more}
+use Rattle.mesh_laws.proofs.TakenMembers.{Takes, here, later, Takes-In, Takes-In_left, Takes-In_taken, Takes-count, Takes-apart, In-sorted}
+use Rattle.mesh_laws.proofs.TakenMembers.{from_In-sorted, one_more}
+use Rattle.lists.specs.Members.{In, Distinct, Ascends}
+use Rattle.lists.proofs.Tests.{and_true, and_left, and_right}
+use Rattle.lists.proofs.Contained.{any_default}
+use Rattle.lists.proofs.MemberLaws.{Contains_from, from_any, any_from, In_of_has, In-numbers, from_In-numbers}
+use Rattle.lists.proofs.Sorting.{bit, count_by-cons}
+use Rattle.lists.proofs.DistinctLists.{from_distinct_test}
+use Rattle.std.proofs.lemmas.Bool.{false_from_ne_true, both_ways}
+use Rattle.lists.proofs.Counts.{not_there}
+use Rattle.iso_model.proofs.PointLaws.{total-append}
 
 -- ---- tests of members
-
-pub clash : (b : Bool) → b ≡ false → b ≡ true → ⊥
-clash b e f = cc
-
-and_true : (a : Bool) → (a && true) ≡ a
-and_true true = refl
-and_true false = refl
 
 eq_self : (x : ℕ) → nat_eq x x ≡ true
 eq_self x = grind (arith, nat_tests)
 
-pub eq_same : (x y : ℕ) → nat_eq x y ≡ true → y ≡ x
-eq_same x y e = grind (arith, nat_tests)
-
-pub In_of_has : (xs : List ℕ) (x : ℕ) → has xs x ≡ true → In x xs
-In_of_has xs x h = let r = from_any (nat_eq x) xs h in subst (λ (y : ℕ). In y xs) (eq_same x r.0 r.2) r.1
-
-pub has_of_In : (xs : List ℕ) (x : ℕ) → In x xs → has xs x ≡ true
-has_of_In xs x i = any_from (nat_eq x) xs x i (eq_self x)
-
-pub not_In_of_has : (xs : List ℕ) (x : ℕ) → has xs x ≡ false → In x xs → ⊥
-not_In_of_has xs x h i = clash (has xs x) h (has_of_In xs x i)
-
 -- ---- places
-
-pub In-numbers : (n k : ℕ) → k < n → In k (numbers n)
-In-numbers n k h = let c = contained_below n k h in In_from (numbers n) k c.0 c.1 c.2
-
-pub from_In-numbers : (n k : ℕ) → In k (numbers n) → k < n
-from_In-numbers n k i = below_contained n k (Contains_from (numbers n) k i)
 
 pub place_takes : (w : List ℕ) (k : ℕ) → k < length w → Takes (get_or w k 0) (without k w) w
 place_takes [] k h = absurd (omega arith)
@@ -77,8 +58,11 @@ face_place face w h =
     let r = from_any (λ i. same_list (face_without w i) face) (numbers (length w)) any in
     (r.0, from_In-numbers (length w) r.0 r.1, (bytes_eq-Decides (face_without w r.0) face).0 r.2)
 
-pub any_place : (face w : List ℕ) (k : ℕ) → k < length w → sorted (without k w) ≡ face → list_any (λ i. same_list (face_without w i) face) (numbers (length w)) ≡ true
-any_place face w k h e = any_from (λ i. same_list (face_without w i) face) (numbers (length w)) k (In-numbers (length w) k h) ((bytes_eq-Decides (face_without w k) face).1 e)
+pub any_place : (face w : List ℕ) (k : ℕ) → k < length w → sorted (without k w) ≡ face
+    → list_any (λ i. same_list (face_without w i) face) (numbers (length w)) ≡ true
+any_place face w k h e =
+    any_from (λ i. same_list (face_without w i) face) (numbers (length w)) k (In-numbers (length w) k h)
+    ((bytes_eq-Decides (face_without w k) face).1 e)
 
 pub has_face_all : (face w : List ℕ) → Ascends face → length w ≡ length face + 1 → ((f : ℕ) → In f face → In f w) → has_face face w ≡ is_distinct w
 has_face_all face w a n all =
@@ -87,7 +71,7 @@ has_face_all face w a n all =
     rw (any_place face w p.0 p.1 (ap sorted p.2 ∙ r.3)) (and_true (is_distinct w))
 
 pub has_face_lacks : (face w : List ℕ) (f : ℕ) → In f face → (In f w → ⊥) → has_face face w ≡ false
-has_face_lacks face w f i lacks = not_true (has_face face w) (λ h.
+has_face_lacks face w f i lacks = false_from_ne_true (has_face face w) (λ h.
     let r = face_place face w h in
     lacks (Takes-In_left (place_takes w r.0 r.1) f (from_In-sorted f (without r.0 w) (subst (λ (v : List ℕ). In f v) (sym r.2) i))))
 
@@ -96,7 +80,7 @@ pub place_left_out : (face w : List ℕ) (k : ℕ) → is_distinct w ≡ true �
 place_left_out face w k d h e i =
     let t = place_takes w k h in
     let apart = Takes-apart t (from_distinct_test w d) in
-    not_In_of_count (get_or w k 0) (without k w) apart.0 (from_In-sorted (get_or w k 0) (without k w) (subst (λ (v : List ℕ). In (get_or w k 0) v) (sym e) i))
+    not_there (get_or w k 0) (without k w) apart.0 (from_In-sorted (get_or w k 0) (without k w) (subst (λ (v : List ℕ). In (get_or w k 0) v) (sym e) i))
 
 pub the_left_out : (face w : List ℕ) (k x : ℕ) → k < length w → sorted (without k w) ≡ face → In x w → (In x face → ⊥) → x ≡ get_or w k 0
 the_left_out face w k x h e i free = elim (Takes-In (place_takes w k h) x i) as (λ _. x ≡ get_or w k 0) [
@@ -120,7 +104,9 @@ zero_left x y e = omega (arith, ints)
 
 total_none : (h : ℕ → ℤ) (a n : ℕ) → ((i : ℕ) → a ≤ i → i < a + n → h i ≡ pos 0) → total (map h (range_with_len a n)) ≡ pos 0
 total_none h a zero none = refl
-total_none h a (suc n) none = zero_left (h a) (total (map h (range_with_len (a + 1) n))) (none a (omega arith) (omega arith)) ∙ total_none h (a + 1) n (λ i low high. none i (omega arith) (omega arith))
+total_none h a (suc n) none =
+    zero_left (h a) (total (map h (range_with_len (a + 1) n))) (none a (omega arith) (omega arith))
+    ∙ total_none h (a + 1) n (λ i low high. none i (omega arith) (omega arith))
 
 first_or_later : (a k : ℕ) → a ≤ k → (a ≡ k) ⊎ (a + 1 ≤ k)
 first_or_later a k h = grind arith
@@ -128,13 +114,16 @@ first_or_later a k h = grind arith
 total_one : (h : ℕ → ℤ) (a n k : ℕ) → a ≤ k → k < a + n → ((i : ℕ) → a ≤ i → i < a + n → i ≢ k → h i ≡ pos 0) → total (map h (range_with_len a n)) ≡ h k
 total_one h a zero k low high others = absurd (omega arith)
 total_one h a (suc n) k low high others = elim (first_or_later a k low) as (λ _. h a +ℤ total (map h (range_with_len (a + 1) n)) ≡ h k) [
-  | inl e ↦ ap (λ (z : ℤ). h a +ℤ z) (total_none h (a + 1) n (λ i l m. others i (omega (arith, l)) (omega (arith, m)) (λ f. omega (arith, l, e, f)))) ∙ zero_right (h a) ∙ ap h e
+  | inl e ↦
+      ap (λ (z : ℤ). h a +ℤ z) (total_none h (a + 1) n (λ i l m. others i (omega (arith, l)) (omega (arith, m)) (λ f. omega (arith, l, e, f))))
+      ∙ zero_right (h a) ∙ ap h e
   | inr more ↦ zero_left (h a) (total (map h (range_with_len (a + 1) n))) (others a (omega arith) (omega arith) (λ f. omega (arith, f, more)))
       ∙ total_one h (a + 1) n k more (omega (arith, high)) (λ i l m. others i (omega (arith, l)) (omega (arith, m)))
 ]
 
 -- the place and the order of the others, by the order of all and by how many are below the number at the place
-pub rank : (w : List ℕ) (k : ℕ) → k < length w → Distinct w → (k + inversions (without k w)) % 2 ≡ (inversions w + count_by (λ y. nat_lt y (get_or w k 0)) w) % 2
+pub rank : (w : List ℕ) (k : ℕ) → k < length w → Distinct w
+    → (k + inversions (without k w)) % 2 ≡ (inversions w + count_by (λ y. nat_lt y (get_or w k 0)) w) % 2
 rank [] k h d = absurd (omega arith)
 rank (x ∷ xs) zero h d =
     let none : bit (nat_lt x x) ≡ 0 = grind (arith, nat_tests) in
@@ -143,7 +132,7 @@ rank (x ∷ xs) (suc k) h d =
     let inside : k < length xs = omega arith in
     let g = get_or xs k 0 in
     let t = place_takes xs k inside in
-    let apart : get_or xs k 0 ≢ x = λ e. not_In_of_count x xs d.0 (subst (λ (y : ℕ). In y xs) e (Takes-In_taken t)) in
+    let apart : get_or xs k 0 ≢ x = λ e. not_there x xs d.0 (subst (λ (y : ℕ). In y xs) e (Takes-In_taken t)) in
     let one : bit (nat_lt (get_or xs k 0) x) + bit (nat_lt x (get_or xs k 0)) ≡ 1 = grind (arith, nat_tests) in
     omega (arith, one, rank xs k inside d.1, Takes-count (λ y. nat_lt y x) t, count_by-cons (λ y. nat_lt y g) x xs)
 
@@ -154,7 +143,10 @@ abbrev sign_at : List ℕ → List ℕ → ℕ → ℤ
 sign_at face w i = if same_list (face_without w i) face then sign_without w i else pos 0
 
 sign_elsewhere : (face w : List ℕ) (i : ℕ) → (sorted (without i w) ≡ face → ⊥) → sign_at face w i ≡ pos 0
-sign_elsewhere face w i differs = let e : same_list (face_without w i) face ≡ false = not_true (same_list (face_without w i) face) (λ h. differs ((bytes_eq-Decides (face_without w i) face).0 h)) in rw e refl
+sign_elsewhere face w i differs =
+    let e : same_list (face_without w i) face ≡ false =
+    false_from_ne_true (same_list (face_without w i) face) (λ h. differs ((bytes_eq-Decides (face_without w i) face).0 h)) in
+    rw e refl
 
 sign_here : (face w : List ℕ) (i : ℕ) → sorted (without i w) ≡ face → sign_at face w i ≡ sign_without w i
 sign_here face w i same = let e : same_list (face_without w i) face ≡ true = (bytes_eq-Decides (face_without w i) face).1 same in rw e refl
@@ -177,7 +169,8 @@ sign_of_free face w x h i free =
     let d = and_left (is_distinct w) (list_any (λ i. same_list (face_without w i) face) (numbers (length w))) h in
     let same : x ≡ get_or w k 0 = the_left_out face w k x r.1 r.2 i free in
     let odd = odd_same (k + inversions (without k w)) (inversions w + count_by (λ y. nat_lt y (get_or w k 0)) w) (rank w k r.1 (from_distinct_test w d)) in
-    sign_of_place face w k d r.1 r.2 ∙ ap (λ (b : Bool). signed b (pos 1)) (odd ∙ ap (λ (y : ℕ). is_odd (inversions w + count_by (λ z. nat_lt z y) w)) (sym same))
+    sign_of_place face w k d r.1 r.2
+    ∙ ap (λ (b : Bool). signed b (pos 1)) (odd ∙ ap (λ (y : ℕ). is_odd (inversions w + count_by (λ z. nat_lt z y) w)) (sym same))
 
 pub sign_none : (face w : List ℕ) → has_face face w ≡ false → sign_of_face face w ≡ pos 0
 sign_none face w h = go (is_distinct w) refl
@@ -185,33 +178,17 @@ sign_none face w h = go (is_distinct w) refl
     go : (b : Bool) → is_distinct w ≡ b → sign_of_face face w ≡ pos 0
     go false d = rw d refl
     go true d = sign_total face w d ∙ total_none (sign_at face w) 0 (length w) (λ i l m. sign_elsewhere face w i (λ e.
-        clash (has_face face w) h (rw (d, any_place face w i (omega (arith, m)) e) refl)))
+        both_ways (has_face face w) h (rw (d, any_place face w i (omega (arith, m)) e) refl)))
 
 -- ---- ascending by neighbours
 
-next_place : (k : ℕ) → suc (k + 1) ≡ suc k + 1
-next_place k = omega arith
-
-pub ascends_of : (xs : List ℕ) → IsStrictlyIncreasing xs → Ascends xs
-ascends_of [] h = tt
-ascends_of (x ∷ []) h = (λ y i. absurd i, tt)
-ascends_of (x ∷ y ∷ ys) h =
-    let more = ascends_of (y ∷ ys) (λ k l. subst (λ (n : ℕ). slice_index (y ∷ ys) k < slice_index (x ∷ y ∷ ys) n) (sym (next_place k)) (h (suc k) (omega (arith, l)))) in
-    let first : x < y = h 0 (omega arith) in
-    (λ z i. elim i as (λ _. x < z) [ inl e ↦ omega (arith, e) | inr j ↦ omega (arith, more.0 z j) ], more)
-
 -- ---- of simplices one by one
 
-pub total-append : (xs ys : List ℤ) → total (xs ++ ys) ≡ total xs +ℤ total ys
-total-append [] ys = omega (arith, ints)
-total-append (x ∷ xs) ys = sum_step x (total xs) (total ys) (total (xs ++ ys)) (total-append xs ys)
-  where
-    sum_step : (a b c d : ℤ) → d ≡ b +ℤ c → a +ℤ d ≡ (a +ℤ b) +ℤ c
-    sum_step a b c d e = omega (arith, ints)
-
-pub total_more : {X : Type 0} (f : X → ℤ) (xs : List X) (i : ℕ) (x : X) → i < length xs → x ≡ get_or xs i x → total (map f (take (i + 1) xs)) ≡ total (map f (take i xs)) +ℤ f x
+pub total_more : {X : Type 0} (f : X → ℤ) (xs : List X) (i : ℕ) (x : X) → i < length xs → x ≡ get_or xs i x
+    → total (map f (take (i + 1) xs)) ≡ total (map f (take i xs)) +ℤ f x
 total_more f xs i x h e =
-    ap (λ ys. total (map f ys)) (take_more xs i x h) ∙ ap total (map-append f (take i xs) (get_or xs i x ∷ [])) ∙ total-append (map f (take i xs)) (f (get_or xs i x) ∷ [])
+    ap (λ ys. total (map f ys)) (take_more xs i x h) ∙ ap total (map-append f (take i xs) (get_or xs i x ∷ []))
+    ∙ total-append (map f (take i xs)) (f (get_or xs i x) ∷ [])
     ∙ ap (λ (z : ℤ). total (map f (take i xs)) +ℤ z) (zero_right (f (get_or xs i x)) ∙ ap f (sym e))
 
 pub size_more : (x y : ℤ) (n : ℕ) → unsigned_abs x ≤ n → unsigned_abs y ≤ 1 → unsigned_abs (x +ℤ y) ≤ n + 1

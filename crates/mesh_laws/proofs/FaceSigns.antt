@@ -1,12 +1,17 @@
 -- How the faces of a simplex and their signs follow an exchange of its last two places, and a map of its numbers.
 use Rattle.std.proofs.Common.{◌≡◌, ℕ, ◌+◌, ◌-◌, ◌<◌, ◌≤◌, Bool, true, false, not, ◌&&◌, ◌||◌, List, [], ◌∷◌, length, refl, ap, sym, ◌∙◌, subst, arith, inl, inr}
-use Rattle.std.specs.Prelude.{map, count_by, ◌≢◌, ◌%◌, nat_eq, nat_lt, nat_le, if◌then◌else◌, ◌⊎◌, ⊤}
+use Rattle.std.specs.Prelude.{map, count_by, ◌≢◌, ◌%◌, nat_eq, nat_lt, nat_le, if◌then◌else◌, ◌⊎◌}
 use Rattle.std.specs.List.{list_any}
 use Rattle.std.proofs.lemmas.Bool.Decides.{nat_tests, same_from_decides}
 use Rattle.std.proofs.lemmas.Slice.Eq.{bytes_eq-Decides}
-use Rattle.iso_model.specs.Orders.{inversions, put_in, sorted, is_odd, is_distinct, same_list, exchange_last}
-use Rattle.mesh_laws.proofs.Members.{In, from_In-map, from_any, any_from, count_none, count_some}
-use Rattle.mesh_laws.proofs.Sorting.{bit, count_by-cons, count-map, count-sorted, put_in_comm, sorted-map-sorted, Distinct, image_order}
+use Rattle.lists.specs.Orders.{inversions, put_in, sorted, is_odd, is_distinct, same_list, exchange_last}
+use Rattle.lists.specs.Members.{In, Each, Distinct}
+use Rattle.lists.proofs.Tests.{and_left}
+use Rattle.lists.proofs.MemberLaws.{from_In-map, from_any, list_any-map}
+use Rattle.lists.proofs.Sorting.{bit, count_by-cons, count-sorted, count-map, put_in_comm, sorted-map-sorted, image_order}
+use Rattle.lists.proofs.Counts.{count_none, count_some}
+use Rattle.lists.proofs.DistinctLists.{from_distinct_test}
+use Rattle.std.proofs.lemmas.Bool.{false_from_ne_true}
 
 -- for each place of a simplex, the place and the numbers at the others
 abbrev pub left_out : List ℕ → List (ℕ × List ℕ)
@@ -33,11 +38,6 @@ pub data Part : List ℕ → List ℕ → Type 0 where
   rest : {x : ℕ} {xs : List ℕ} → Part xs (x ∷ xs)
   after : {x : ℕ} {l xs : List ℕ} → Part l xs → Part (x ∷ l) (x ∷ xs)
 
--- each member is in the domain
-abbrev pub Each : (ℕ → Type 0) → List ℕ → Type 0
-Each D [] = ⊤
-Each D (x ∷ xs) = D x × Each D xs
-
 pub Part-Each : (D : ℕ → Type 0) {l w : List ℕ} → Part l w → Each D w → Each D l
 Part-Each D rest all = all.1
 Part-Each D (after p) all = (all.0, Part-Each D p all.1)
@@ -52,18 +52,15 @@ Part-Distinct (after {x = x} q) d =
     let few = Part-count (nat_eq x) q in
     (omega (arith, few, d.0), Part-Distinct q d.1)
 
-pub any-map : {X Y : Type 0} (t : Y → Bool) (h : X → Y) (xs : List X) → list_any t (map h xs) ≡ list_any (λ x. t (h x)) xs
-any-map t h [] = refl
-any-map t h (x ∷ xs) = ap (λ (b : Bool). t (h x) || b) (any-map t h xs)
-
 -- two tests that agree at each part find the same
-pub any_part : (t u : ℕ × List ℕ → Bool) (w : List ℕ) → ((i : ℕ) (l : List ℕ) → Part l w → t (i, l) ≡ u (i, l)) → list_any t (left_out w) ≡ list_any u (left_out w)
+pub any_part : (t u : ℕ × List ℕ → Bool) (w : List ℕ) → ((i : ℕ) (l : List ℕ) → Part l w → t (i, l) ≡ u (i, l))
+    → list_any t (left_out w) ≡ list_any u (left_out w)
 any_part t u [] same = refl
 any_part t u (x ∷ xs) same =
     let first : t (0, xs) ≡ u (0, xs) = same 0 xs rest in
     let more : list_any (λ (f : ℕ × List ℕ). t (f.0 + 1, x ∷ f.1)) (left_out xs) ≡ list_any (λ (f : ℕ × List ℕ). u (f.0 + 1, x ∷ f.1)) (left_out xs) =
     any_part (λ f. t (f.0 + 1, x ∷ f.1)) (λ f. u (f.0 + 1, x ∷ f.1)) xs (λ i l p. same (i + 1) (x ∷ l) (after p)) in
-    rw (first, any-map t (λ f. (f.0 + 1, x ∷ f.1)) (left_out xs), any-map u (λ f. (f.0 + 1, x ∷ f.1)) (left_out xs), more) refl
+    rw (first, list_any-map t (λ f. (f.0 + 1, x ∷ f.1)) (left_out xs), list_any-map u (λ f. (f.0 + 1, x ∷ f.1)) (left_out xs), more) refl
 
 -- ---- a map of the numbers
 
@@ -99,7 +96,8 @@ module _ (f g : ℕ → ℕ) (D : ℕ → Type 0) (back : (x : ℕ) → D x → 
   Distinct-map (x ∷ l) all d = (count_at x all.0 l all.1 d.0, Distinct-map l all.1 d.1)
 
   -- the image of a part is the image of a face exactly where the part has the face
-  pub face_image : (face l : List ℕ) → sorted face ≡ face → Each D face → Each D l → same_list (sorted (map f l)) (sorted (map f face)) ≡ same_list (sorted l) face
+  pub face_image : (face l : List ℕ) → sorted face ≡ face → Each D face → Each D l
+      → same_list (sorted (map f l)) (sorted (map f face)) ≡ same_list (sorted l) face
   face_image face l ascends in_face in_l =
       same_from_decides _ _ (bytes_eq-Decides (sorted (map f l)) (sorted (map f face))) (
         λ e. let h = (bytes_eq-Decides (sorted l) face).0 e in sym (sorted-map-sorted f l) ∙ ap (λ (v : List ℕ). sorted (map f v)) h,
@@ -118,17 +116,21 @@ module _ (f g : ℕ → ℕ) (D : ℕ → Type 0) (back : (x : ℕ) → D x → 
   signed_image m face i l ascends in_face in_l apart =
       and_same _ _ _ _ (face_image face l ascends in_face in_l) (λ has.
       let same : sorted l ≡ face = (bytes_eq-Decides (sorted l) face).0 has in
-      let order : (inversions l + inversions (map f l)) % 2 ≡ inversions (map f face) % 2 = subst (λ (v : List ℕ). (inversions l + inversions (map f l)) % 2 ≡ inversions (map f v) % 2) same (image_order f l (Distinct-map l in_l apart)) in
+      let order : (inversions l + inversions (map f l)) % 2 ≡ inversions (map f face) % 2 =
+      subst (λ (v : List ℕ). (inversions l + inversions (map f l)) % 2 ≡ inversions (map f v) % 2) same
+      (image_order f l (Distinct-map l in_l apart)) in
       even_same (i + inversions (map f l) + m) (i + inversions l + (m + inversions (map f face))) (omega (arith, order)))
 
   left_out-map : (w : List ℕ) → left_out (map f w) ≡ map (image f) (left_out w)
   left_out-map [] = refl
-  left_out-map (x ∷ xs) = ap (λ (hs : List (ℕ × List ℕ)). (0, map f xs) ∷ map (one_more (f x)) hs) (left_out-map xs) ∙ ap (λ (hs : List (ℕ × List ℕ)). (0, map f xs) ∷ hs) (image-one_more f x (left_out xs))
+  left_out-map (x ∷ xs) =
+      ap (λ (hs : List (ℕ × List ℕ)). (0, map f xs) ∷ map (one_more (f x)) hs) (left_out-map xs)
+      ∙ ap (λ (hs : List (ℕ × List ℕ)). (0, map f xs) ∷ hs) (image-one_more f x (left_out xs))
 
   pub any_signed_image : (m : ℕ) (face w : List ℕ) → sorted face ≡ face → Each D face → Each D w → Distinct w →
       list_any (is_signed_face m (sorted (map f face))) (left_out (map f w)) ≡ list_any (is_signed_face (m + inversions (map f face)) face) (left_out w)
   any_signed_image m face w ascends in_face in_w apart =
-      rw (left_out-map w, any-map (is_signed_face m (sorted (map f face))) (image f) (left_out w))
+      rw (left_out-map w, list_any-map (is_signed_face m (sorted (map f face))) (image f) (left_out w))
       (any_part _ _ w (λ i l p. signed_image m face i l ascends in_face (Part-Each D p in_w) (Part-Distinct p apart)))
 
 -- ---- the last two places exchanged
@@ -179,9 +181,16 @@ any-exchange t period (x ∷ y ∷ []) turns long = rw (period 0 (x ∷ [])) (sw
 any-exchange t period (x ∷ y ∷ z ∷ w) turns long =
     let shorter : 2 ≤ length (y ∷ z ∷ w) = omega arith in
     let first : t 0 (exchange_last (y ∷ z ∷ w)) ≡ t 1 (y ∷ z ∷ w) = turns 0 (y ∷ z ∷ w) rest shorter in
-    let more : list_any (λ (h : ℕ × List ℕ). t (h.0 + 1) (x ∷ h.1)) (left_out (exchange_last (y ∷ z ∷ w))) ≡ list_any (λ (h : ℕ × List ℕ). t (h.0 + 1 + 1) (x ∷ h.1)) (left_out (y ∷ z ∷ w)) =
+    let more : list_any (λ (h : ℕ × List ℕ). t (h.0 + 1) (x ∷ h.1)) (left_out (exchange_last (y ∷ z ∷ w)))
+    ≡ list_any (λ (h : ℕ × List ℕ). t (h.0 + 1 + 1) (x ∷ h.1)) (left_out (y ∷ z ∷ w)) =
     any-exchange (λ i l. t (i + 1) (x ∷ l)) (λ i l. more_period i l) (y ∷ z ∷ w) (λ i l p q. more_turns i l p q) shorter in
-    rw (any-map (λ (h : ℕ × List ℕ). t h.0 h.1) (one_more x) (left_out (exchange_last (y ∷ z ∷ w))), any-map (λ (h : ℕ × List ℕ). t (h.0 + 1) h.1) (one_more x) (left_out (y ∷ z ∷ w)), first, more) refl
+    rw (
+      list_any-map (λ (h : ℕ × List ℕ). t h.0 h.1) (one_more x) (left_out (exchange_last (y ∷ z ∷ w))),
+      list_any-map (λ (h : ℕ × List ℕ). t (h.0 + 1) h.1) (one_more x) (left_out (y ∷ z ∷ w)),
+      first,
+      more,
+    )
+    refl
   where
     more_period : (i : ℕ) (l : List ℕ) → t (i + 2 + 1) (x ∷ l) ≡ t (i + 1) (x ∷ l)
     more_period i l = let e : i + 2 + 1 ≡ i + 1 + 2 = omega arith in rw e (period (i + 1) (x ∷ l))
@@ -197,8 +206,12 @@ signed-period m face i l = ap (λ (b : Bool). same_list (sorted l) face && b) (e
     even : (a b : ℕ) → a % 2 ≡ b % 2 → not (is_odd a) ≡ not (is_odd b)
     even a b same = ap (λ (n : ℕ). not (nat_eq n 1)) same
 
-signed-exchange : (m : ℕ) (face : List ℕ) (i : ℕ) (l : List ℕ) → Distinct l → 2 ≤ length l → is_signed_face m face (i, exchange_last l) ≡ is_signed_face m face (i + 1, l)
-signed-exchange m face i l d long = rw (sorted-exchange l) (ap (λ (b : Bool). same_list (sorted l) face && b) (even (i + inversions (exchange_last l) + m) (i + 1 + inversions l + m) (omega (arith, inversions-exchange l d long))))
+signed-exchange : (m : ℕ) (face : List ℕ) (i : ℕ) (l : List ℕ) → Distinct l → 2 ≤ length l
+    → is_signed_face m face (i, exchange_last l) ≡ is_signed_face m face (i + 1, l)
+signed-exchange m face i l d long =
+    rw (sorted-exchange l)
+    (ap (λ (b : Bool). same_list (sorted l) face && b)
+    (even (i + inversions (exchange_last l) + m) (i + 1 + inversions l + m) (omega (arith, inversions-exchange l d long))))
   where
     even : (a b : ℕ) → a % 2 ≡ b % 2 → not (is_odd a) ≡ not (is_odd b)
     even a b same = ap (λ (n : ℕ). not (nat_eq n 1)) same
@@ -214,24 +227,8 @@ any_signed-exchange m face w d long =
 
 -- ---- members
 
-pub Each-In : (D : ℕ → Type 0) (w : List ℕ) → Each D w → (x : ℕ) → In x w → D x
-Each-In D [] all x i = absurd i
-Each-In D (y ∷ w) all x (inl e) = subst D (sym e) all.0
-Each-In D (y ∷ w) all x (inr i) = Each-In D w all.1 x i
-
-pub Each-from_In : (D : ℕ → Type 0) (w : List ℕ) → ((x : ℕ) → In x w → D x) → Each D w
-Each-from_In D [] h = tt
-Each-from_In D (y ∷ w) h = (h y (inl refl), Each-from_In D w (λ x i. h x (inr i)))
-
-pub Each-map : (D : ℕ → Type 0) (f : ℕ → ℕ) (w : List ℕ) → Each (λ x. D (f x)) w → Each D (map f w)
-Each-map D f [] all = tt
-Each-map D f (x ∷ w) all = (all.0, Each-map D f w all.1)
-
-pub from_Each-map : (D : ℕ → Type 0) (f : ℕ → ℕ) (w : List ℕ) → Each D (map f w) → Each (λ x. D (f x)) w
-from_Each-map D f [] all = tt
-from_Each-map D f (x ∷ w) all = (all.0, from_Each-map D f w all.1)
-
-Each-put_in_case : (D : ℕ → Type 0) (x y : ℕ) (w : List ℕ) → D x → D y × Each D w → Each D (put_in x w) → (b : Bool) → Each D (if b then x ∷ y ∷ w else y ∷ put_in x w)
+Each-put_in_case : (D : ℕ → Type 0) (x y : ℕ) (w : List ℕ) → D x → D y × Each D w → Each D (put_in x w) → (b : Bool)
+    → Each D (if b then x ∷ y ∷ w else y ∷ put_in x w)
 Each-put_in_case D x y w dx all later true = (dx, all)
 Each-put_in_case D x y w dx all later false = (all.0, later)
 
@@ -239,7 +236,8 @@ pub Each-put_in : (D : ℕ → Type 0) (x : ℕ) (w : List ℕ) → D x → Each
 Each-put_in D x [] dx all = (dx, tt)
 Each-put_in D x (y ∷ w) dx all = Each-put_in_case D x y w dx all (Each-put_in D x w dx all.1) (nat_le x y)
 
-from_Each-put_in_case : (D : ℕ → Type 0) (x y : ℕ) (w : List ℕ) → (Each D (put_in x w) → D x × Each D w) → (b : Bool) → Each D (if b then x ∷ y ∷ w else y ∷ put_in x w) → D x × (D y × Each D w)
+from_Each-put_in_case : (D : ℕ → Type 0) (x y : ℕ) (w : List ℕ) → (Each D (put_in x w) → D x × Each D w) → (b : Bool)
+    → Each D (if b then x ∷ y ∷ w else y ∷ put_in x w) → D x × (D y × Each D w)
 from_Each-put_in_case D x y w later true all = all
 from_Each-put_in_case D x y w later false all = let r = later all.1 in (r.0, (all.0, r.1))
 
@@ -303,38 +301,14 @@ Part-exchange (x ∷ y ∷ z ∷ w) {l} p = elim (Part-case p) [
 
 -- ---- distinct numbers
 
-any-count : (p : ℕ → Bool) (xs : List ℕ) → count_by p xs ≡ 0 → list_any p xs ≡ false
-any-count p xs none = not_true (list_any p xs) (λ h. let r = from_any p xs h in let some : 1 ≤ count_by p xs = count_some p xs r.0 r.1 r.2 in absurd (omega (arith, some, none)))
-  where
-    not_true : (b : Bool) → (b ≡ true → ⊥) → b ≡ false
-    not_true true h = absurd (h refl)
-    not_true false h = refl
-
-pub distinct_test : (w : List ℕ) → Distinct w → is_distinct w ≡ true
-distinct_test [] d = refl
-distinct_test (x ∷ w) d = rw (any-count (nat_eq x) w d.0, distinct_test w d.1) refl
-
-count-any : (p : ℕ → Bool) (xs : List ℕ) → list_any p xs ≡ false → count_by p xs ≡ 0
-count-any p xs h = count_none p xs (λ x i e. clash (list_any p xs) h (any_from p xs x i e))
-  where
-    clash : (b : Bool) → b ≡ false → b ≡ true → ⊥
-    clash b e f = cc
-
-pub from_distinct_test : (w : List ℕ) → is_distinct w ≡ true → Distinct w
-from_distinct_test [] h = tt
-from_distinct_test (x ∷ w) h = let r = both (list_any (nat_eq x) w) (is_distinct w) h in (count-any (nat_eq x) w r.0, from_distinct_test w r.1)
-  where
-    both : (a b : Bool) → (not a && b) ≡ true → (a ≡ false) × (b ≡ true)
-    both true b e = absurd (cc)
-    both false b e = (refl, e)
-
 -- ---- a simplex has a face at one place at most
 
 -- all lists that pass the test have the same members, as many times
 abbrev pub FixesCounts : (List ℕ → Bool) → (ℕ → ℕ) → Type 0
 FixesCounts t n = (l : List ℕ) → t l ≡ true → (x : ℕ) → count_by (nat_eq x) l ≡ n x
 
-one_place_case : (t : List ℕ → Bool) (n : ℕ → ℕ) → FixesCounts t n → (x : ℕ) (xs : List ℕ) → Distinct (x ∷ xs) → count_by (λ h. t (x ∷ h.1)) (left_out xs) ≤ 1 → (b : Bool) → t xs ≡ b →
+one_place_case : (t : List ℕ → Bool) (n : ℕ → ℕ) → FixesCounts t n → (x : ℕ) (xs : List ℕ) → Distinct (x ∷ xs)
+    → count_by (λ h. t (x ∷ h.1)) (left_out xs) ≤ 1 → (b : Bool) → t xs ≡ b →
     bit (t xs) + count_by (λ h. t (x ∷ h.1)) (left_out xs) ≤ 1
 one_place_case t n fixes x xs d few true e =
     let none : count_by (λ (h : ℕ × List ℕ). t (x ∷ h.1)) (left_out xs) ≡ 0 =
@@ -354,7 +328,12 @@ one_place t n fixes [] d = omega arith
 one_place t n fixes (x ∷ xs) d =
     let rest_few : count_by (λ (h : ℕ × List ℕ). t (x ∷ h.1)) (left_out xs) ≤ 1 =
     one_place (λ l. t (x ∷ l)) (λ y. n y - bit (nat_eq y x)) (λ l e y. omega (arith, fixes (x ∷ l) e y, count_by-cons (nat_eq y) x l)) xs d.1 in
-    omega (arith, one_place_case t n fixes x xs d rest_few (t xs) refl, count_by-cons (λ (h : ℕ × List ℕ). t h.1) (0, xs) (map (one_more x) (left_out xs)), count-map (λ (h : ℕ × List ℕ). t h.1) (one_more x) (left_out xs))
+    omega (
+      arith,
+      one_place_case t n fixes x xs d rest_few (t xs) refl,
+      count_by-cons (λ (h : ℕ × List ℕ). t h.1) (0, xs) (map (one_more x) (left_out xs)),
+      count-map (λ (h : ℕ × List ℕ). t h.1) (one_more x) (left_out xs),
+    )
 
 -- a face that stands at one place has one sign
 abbrev SplitsAt : List ℕ → ℕ → List (ℕ × List ℕ) → Type 0
@@ -371,31 +350,22 @@ parity_sum a b next =
     cases : (x y : ℕ) → x < 2 → x + y ≡ 1 → (x ≡ 0) × (y ≡ 1) ⊎ (x ≡ 1) × (y ≡ 0)
     cases x y h e = grind arith
 
-pub and_left : (a b : Bool) → (a && b) ≡ true → a ≡ true
-and_left true b h = refl
-and_left false b h = h
-
-pub and_right : (a b : Bool) → (a && b) ≡ true → b ≡ true
-and_right true b h = h
-and_right false b h = absurd (cc)
-
-pub not_true : (b : Bool) → (b ≡ true → ⊥) → b ≡ false
-not_true true h = absurd (h refl)
-not_true false h = refl
-
 signed_none : (face : List ℕ) (m : ℕ) (hs : List (ℕ × List ℕ)) → count_by (is_face face) hs ≡ 0 → list_any (is_signed_face m face) hs ≡ false
-signed_none face m hs none = not_true (list_any (is_signed_face m face) hs) (λ h.
+signed_none face m hs none = false_from_ne_true (list_any (is_signed_face m face) hs) (λ h.
     let r = from_any (is_signed_face m face) hs h in
     let some : 1 ≤ count_by (is_face face) hs = count_some (is_face face) hs r.0 r.1 (and_left (is_face face r.0) _ r.2) in
     absurd (omega (arith, some, none)))
 
 -- where the first part is the face, no later one is
-splits_case : (face : List ℕ) (m : ℕ) (h : ℕ × List ℕ) (hs : List (ℕ × List ℕ)) → count_by (is_face face) (h ∷ hs) ≤ 1 → SplitsAt face m hs → (a : Bool) → is_face face h ≡ a → SplitsAt face m (h ∷ hs)
+splits_case : (face : List ℕ) (m : ℕ) (h : ℕ × List ℕ) (hs : List (ℕ × List ℕ)) → count_by (is_face face) (h ∷ hs) ≤ 1 → SplitsAt face m hs
+    → (a : Bool) → is_face face h ≡ a → SplitsAt face m (h ∷ hs)
 splits_case face m h hs few later true e =
     let one : bit (is_face face h) ≡ 1 = ap bit e in
     let none : count_by (is_face face) hs ≡ 0 = omega (arith, count_by-cons (is_face face) h hs, one, few) in
     rw (e, signed_none face m hs none, signed_none face (m + 1) hs none)
-    (sym (ends (not (is_odd (h.0 + inversions h.1 + m))) (not (is_odd (h.0 + inversions h.1 + (m + 1)))) (parity_sum (h.0 + inversions h.1 + m) (h.0 + inversions h.1 + (m + 1)) (omega arith))))
+    (sym
+    (ends (not (is_odd (h.0 + inversions h.1 + m))) (not (is_odd (h.0 + inversions h.1 + (m + 1))))
+    (parity_sum (h.0 + inversions h.1 + m) (h.0 + inversions h.1 + (m + 1)) (omega arith))))
   where
     ends : (a b : Bool) → bit a + bit b ≡ 1 → bit (a || false) + bit (b || false) ≡ 1
     ends true true s = s
@@ -416,7 +386,10 @@ face_signs_at m face w = go (is_distinct w) refl
     few d = one_place (λ l. same_list (sorted l) face) (λ x. count_by (nat_eq x) face)
         (λ l e x. sym (count-sorted (nat_eq x) l) ∙ ap (λ (v : List ℕ). count_by (nat_eq x) v) ((bytes_eq-Decides (sorted l) face).0 e)) w d
 
-    go : (b : Bool) → is_distinct w ≡ b → bit (is_distinct w && list_any (is_face face) (left_out w)) ≡ bit (is_distinct w && list_any (is_signed_face m face) (left_out w)) + bit (is_distinct w && list_any (is_signed_face (m + 1) face) (left_out w))
+    go : (b : Bool) → is_distinct w ≡ b
+        → bit (is_distinct w && list_any (is_face face) (left_out w))
+        ≡ bit (is_distinct w && list_any (is_signed_face m face) (left_out w))
+        + bit (is_distinct w && list_any (is_signed_face (m + 1) face) (left_out w))
     go true e = rw e (splits face m (left_out w) (few (from_distinct_test w e)))
     go false e = rw e refl
 

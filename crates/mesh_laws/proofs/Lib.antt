@@ -1,7 +1,5 @@
-pub mod Sorting
-pub mod Members
 pub mod FaceSigns
-pub mod Taking
+pub mod TakenMembers
 pub mod FaceOf
 pub mod SignedFaces
 pub mod FaceLists

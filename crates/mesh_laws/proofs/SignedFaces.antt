@@ -1,18 +1,24 @@
 -- Count and sum of a face by its signs, and what an exchange of the last two places and a map of the numbers make of both.
-use Rattle.std.proofs.Common.{◌≡◌, ℕ, zero, suc, ◌+◌, ◌<◌, ◌≤◌, Bool, true, false, not, ◌&&◌, ◌||◌, List, [], ◌∷◌, length, get_or, refl, ap, sym, ◌∙◌, subst, arith, ℤ, inl, inr}
+use Rattle.std.proofs.Common.{◌≡◌, ℕ, zero, suc, ◌+◌, ◌<◌, ◌≤◌, Bool, true, false, not, ◌&&◌, ◌||◌, List, [], ◌∷◌, length, get_or, refl, ap, sym, ◌∙◌}
+use Rattle.std.proofs.Common.{subst, arith, ℤ, inl, inr}
 use Rattle.std.specs.Prelude.{map, count_by, ◌%◌, ◌==◌, nat_eq, pos, negsuc, ◌+ℤ◌, neg_ℤ, if◌then◌else◌}
 use Rattle.std.specs.List.{list_any}
 use Rattle.std.proofs.lemmas.Int.{ints}
 use Rattle.std.proofs.lemmas.Slice.Eq.{bytes_eq-Decides}
-use Rattle.std.proofs.lemmas.Bool.{cases_eq}
-use Rattle.iso_model.specs.Orders.{numbers, without, inversions, sorted, is_odd, is_distinct, same_list, exchange_last}
+use Rattle.std.proofs.lemmas.Bool.{cases_eq, and_from, false_from_ne_true, both_ways}
+use Rattle.lists.specs.Orders.{numbers, without, inversions, sorted, is_odd, is_distinct, same_list, exchange_last}
 use Rattle.iso_model.specs.Turns.{signed}
 use Rattle.iso_model.specs.Faces.{face_without, has_face, sign_of_face, face_count, face_sum}
-use Rattle.mesh_laws.proofs.Sorting.{bit, count_by-cons, Distinct}
-use Rattle.mesh_laws.proofs.Members.{In, In-map, from_In-map, from_any, any_from, count_none}
-use Rattle.mesh_laws.proofs.Taking.{In-sorted, not_In_of_count}
-use Rattle.mesh_laws.proofs.FaceSigns.{Each, left_out, is_face, is_signed_face, has_at_a_place, has_signed, not_true, and_left, and_right, distinct_test, from_distinct_test, face_signs, face_signs_at, count-exchange, Distinct-map, Distinct-exchange, any_signed_image, any_signed-exchange}
-use Rattle.mesh_laws.proofs.FaceOf.{eq_same, clash, face_place, any_place, In-without, place_left_out, sign_of_place, sign_none}
+use Rattle.mesh_laws.proofs.TakenMembers.{In-sorted}
+use Rattle.mesh_laws.proofs.FaceSigns.{left_out, is_face, is_signed_face, has_at_a_place, has_signed, face_signs, face_signs_at, count-exchange}
+use Rattle.mesh_laws.proofs.FaceSigns.{Distinct-map, Distinct-exchange, any_signed_image, any_signed-exchange}
+use Rattle.mesh_laws.proofs.FaceOf.{face_place, any_place, In-without, place_left_out, sign_of_place, sign_none}
+use Rattle.lists.specs.Members.{In, Each, Distinct}
+use Rattle.lists.proofs.Tests.{and_left, and_right, same_tests, same_number}
+use Rattle.lists.proofs.MemberLaws.{In-map, from_In-map, from_any, any_from}
+use Rattle.lists.proofs.Sorting.{bit, count_by-cons}
+use Rattle.lists.proofs.Counts.{count_none, not_there}
+use Rattle.lists.proofs.DistinctLists.{distinct_test, from_distinct_test}
 
 -- ---- places
 
@@ -33,57 +39,58 @@ from_left_out (x ∷ xs) h (inr i) =
     let next : s.0 + 1 ≡ suc s.0 = omega arith in
     (suc s.0, omega (arith, s.1), r.2 ∙ ap (λ (f : ℕ × List ℕ). (f.0 + 1, x ∷ f.1)) s.2 ∙ ap (λ (n : ℕ). (n, x ∷ without s.0 xs)) next)
 
-same_test : (a b : Bool) → (a ≡ true → b ≡ true) → (b ≡ true → a ≡ true) → a ≡ b
-same_test true b p q = sym (p refl)
-same_test false true p q = q refl
-same_test false false p q = refl
-
-both_true : (a b : Bool) → a ≡ true → b ≡ true → (a && b) ≡ true
-both_true a b e f = rw (e, f) refl
-
 -- the face is found at a place or by the list of places
 pub has_face_is : (face w : List ℕ) → has_face face w ≡ has_at_a_place face w
-has_face_is face w = same_test (has_face face w) (has_at_a_place face w)
+has_face_is face w = same_tests (has_face face w) (has_at_a_place face w)
     (λ h.
     let r = face_place face w h in
-    both_true (is_distinct w) (list_any (is_face face) (left_out w)) (and_left (is_distinct w) (list_any (λ i. same_list (face_without w i) face) (numbers (length w))) h)
+    and_from (is_distinct w) (list_any (is_face face) (left_out w))
+    (and_left (is_distinct w) (list_any (λ i. same_list (face_without w i) face) (numbers (length w))) h)
     (any_from (is_face face) (left_out w) (r.0, without r.0 w) (left_out-In w r.0 r.1) ((bytes_eq-Decides (sorted (without r.0 w)) face).1 r.2)))
     (λ h.
     let r = from_any (is_face face) (left_out w) (and_right (is_distinct w) (list_any (is_face face) (left_out w)) h) in
     let s = from_left_out w r.0 r.1 in
     let e : sorted (without s.0 w) ≡ face = ap (λ (f : ℕ × List ℕ). sorted f.1) (sym s.2) ∙ (bytes_eq-Decides (sorted r.0.1) face).0 r.2 in
-    both_true (is_distinct w) (list_any (λ i. same_list (face_without w i) face) (numbers (length w))) (and_left (is_distinct w) (list_any (is_face face) (left_out w)) h) (any_place face w s.0 s.1 e))
+    and_from (is_distinct w) (list_any (λ i. same_list (face_without w i) face) (numbers (length w)))
+    (and_left (is_distinct w) (list_any (is_face face) (left_out w)) h) (any_place face w s.0 s.1 e))
 
 -- ---- signs
 
 place_is : (face w : List ℕ) (k i : ℕ) → is_distinct w ≡ true → k < length w → sorted (without k w) ≡ face → sorted (without i w) ≡ face → i ≡ k
 place_is face w k i d h e f = elim (cases_eq i k) as (λ _. i ≡ k) [
   | inl same ↦ same
-  | inr apart ↦ absurd (place_left_out face w k d h e (subst (λ (v : List ℕ). In (get_or w k 0) v) f (In-sorted (get_or w k 0) (without i w) (In-without w k i h apart))))
+  | inr apart ↦
+      absurd
+      (place_left_out face w k d h e
+      (subst (λ (v : List ℕ). In (get_or w k 0) v) f (In-sorted (get_or w k 0) (without i w) (In-without w k i h apart))))
 ]
 
 -- the sign is that at the place
 signed_place : (m : ℕ) (face w : List ℕ) (k : ℕ) → is_distinct w ≡ true → k < length w → sorted (without k w) ≡ face
     → list_any (is_signed_face m face) (left_out w) ≡ not (is_odd (k + inversions (without k w) + m))
-signed_place m face w k d h e = same_test (list_any (is_signed_face m face) (left_out w)) (not (is_odd (k + inversions (without k w) + m)))
+signed_place m face w k d h e = same_tests (list_any (is_signed_face m face) (left_out w)) (not (is_odd (k + inversions (without k w) + m)))
     (λ t.
     let r = from_any (is_signed_face m face) (left_out w) t in
     let s = from_left_out w r.0 r.1 in
-    let f : sorted (without s.0 w) ≡ face = ap (λ (f : ℕ × List ℕ). sorted f.1) (sym s.2) ∙ (bytes_eq-Decides (sorted r.0.1) face).0 (and_left (is_face face r.0) (not (is_odd (r.0.0 + inversions r.0.1 + m))) r.2) in
+    let f : sorted (without s.0 w) ≡ face =
+    ap (λ (f : ℕ × List ℕ). sorted f.1) (sym s.2)
+    ∙ (bytes_eq-Decides (sorted r.0.1) face).0 (and_left (is_face face r.0) (not (is_odd (r.0.0 + inversions r.0.1 + m))) r.2) in
     let same : s.0 ≡ k = place_is face w k s.0 d h e f in
     ap (λ (i : ℕ). not (is_odd (i + inversions (without i w) + m))) (sym same)
     ∙ ap (λ (f : ℕ × List ℕ). not (is_odd (f.0 + inversions f.1 + m))) (sym s.2)
     ∙ and_right (is_face face r.0) (not (is_odd (r.0.0 + inversions r.0.1 + m))) r.2)
     (λ t. any_from (is_signed_face m face) (left_out w) (k, without k w) (left_out-In w k h)
-    (both_true (is_face face (k, without k w)) (not (is_odd (k + inversions (without k w) + m))) ((bytes_eq-Decides (sorted (without k w)) face).1 e) t))
+    (and_from (is_face face (k, without k w)) (not (is_odd (k + inversions (without k w) + m))) ((bytes_eq-Decides (sorted (without k w)) face).1 e) t))
 
 no_sign : (m : ℕ) (face w : List ℕ) → has_face face w ≡ false → has_signed m face w ≡ false
-no_sign m face w h = not_true (has_signed m face w) (λ t.
+no_sign m face w h = false_from_ne_true (has_signed m face w) (λ t.
     let any = and_right (is_distinct w) (list_any (is_signed_face m face) (left_out w)) t in
     let r = from_any (is_signed_face m face) (left_out w) any in
     let f = and_left (is_face face r.0) (not (is_odd (r.0.0 + inversions r.0.1 + m))) r.2 in
-    let found : has_at_a_place face w ≡ true = both_true (is_distinct w) (list_any (is_face face) (left_out w)) (and_left (is_distinct w) (list_any (is_signed_face m face) (left_out w)) t) (any_from (is_face face) (left_out w) r.0 r.1 f) in
-    clash (has_face face w) h (has_face_is face w ∙ found))
+    let found : has_at_a_place face w ≡ true =
+    and_from (is_distinct w) (list_any (is_face face) (left_out w)) (and_left (is_distinct w) (list_any (is_signed_face m face) (left_out w)) t)
+    (any_from (is_face face) (left_out w) r.0 r.1 f) in
+    both_ways (has_face face w) h (has_face_is face w ∙ found))
 
 -- 1 where the face is had with this sign, -1 where it is had with the other, and else 0
 abbrev pub sign_by : Bool → Bool → ℤ
@@ -116,14 +123,18 @@ pub sign_is_signed : (face w : List ℕ) → sign_of_face face w ≡ sign_by (ha
 sign_is_signed face w = go (has_face face w) refl
   where
     go : (b : Bool) → has_face face w ≡ b → sign_of_face face w ≡ sign_by (has_signed 0 face w) (has_signed 1 face w)
-    go false h = sign_none face w h ∙ sym (ap (λ (b : Bool). sign_by b (has_signed 1 face w)) (no_sign 0 face w h) ∙ ap (λ (b : Bool). sign_by false b) (no_sign 1 face w h))
+    go false h =
+        sign_none face w h
+        ∙ sym (ap (λ (b : Bool). sign_by b (has_signed 1 face w)) (no_sign 0 face w h) ∙ ap (λ (b : Bool). sign_by false b) (no_sign 1 face w h))
     go true h =
         let r = face_place face w h in
         let k = r.0 in
         let d = and_left (is_distinct w) (list_any (λ i. same_list (face_without w i) face) (numbers (length w))) h in
         let at = λ (m : ℕ). ap (λ (b : Bool). b && list_any (is_signed_face m face) (left_out w)) d ∙ signed_place m face w k d r.1 r.2 in
         sign_of_place face w k d r.1 r.2 ∙ sign_by_parity (k + inversions (without k w))
-        ∙ sym (ap (λ (b : Bool). sign_by b (has_signed 1 face w)) (at 0) ∙ ap (λ (b : Bool). sign_by (not (is_odd (k + inversions (without k w) + 0))) b) (at 1))
+        ∙ sym
+        (ap (λ (b : Bool). sign_by b (has_signed 1 face w)) (at 0)
+        ∙ ap (λ (b : Bool). sign_by (not (is_odd (k + inversions (without k w) + 0))) b) (at 1))
 
 -- ---- count and sum of a face by its signs
 
@@ -133,10 +144,19 @@ has_face_signs face w = ap bit (has_face_is face w) ∙ face_signs face w
 pub face_count_is : (ws : List (List ℕ)) (face : List ℕ) → face_count ws face ≡ count_by (has_signed 0 face) ws + count_by (has_signed 1 face) ws
 face_count_is [] face = refl
 face_count_is (w ∷ ws) face =
-    omega (arith, face_count_is ws face, has_face_signs face w, count_by-cons (has_face face) w ws, count_by-cons (has_signed 0 face) w ws, count_by-cons (has_signed 1 face) w ws)
+    omega (
+      arith,
+      face_count_is ws face,
+      has_face_signs face w,
+      count_by-cons (has_face face) w ws,
+      count_by-cons (has_signed 0 face) w ws,
+      count_by-cons (has_signed 1 face) w ws,
+    )
 
 sign_is : (face w : List ℕ) → sign_of_face face w +ℤ pos (bit (has_signed 1 face w)) ≡ pos (bit (has_signed 0 face w))
-sign_is face w = ap (λ (z : ℤ). z +ℤ pos (bit (has_signed 1 face w))) (sign_is_signed face w) ∙ go (has_signed 0 face w) (has_signed 1 face w) (has_face face w) (has_face_signs face w)
+sign_is face w =
+    ap (λ (z : ℤ). z +ℤ pos (bit (has_signed 1 face w))) (sign_is_signed face w)
+    ∙ go (has_signed 0 face w) (has_signed 1 face w) (has_face face w) (has_face_signs face w)
   where
     go : (a b c : Bool) → bit c ≡ bit a + bit b → sign_by a b +ℤ pos (bit b) ≡ pos (bit a)
     go true true true h = absurd (omega (arith, h))
@@ -159,7 +179,7 @@ from_Distinct-exchange (x ∷ y ∷ []) d = Distinct-exchange (y ∷ x ∷ []) d
 from_Distinct-exchange (x ∷ y ∷ z ∷ w) d = (sym (count-exchange (nat_eq x) (y ∷ z ∷ w)) ∙ d.0, from_Distinct-exchange (y ∷ z ∷ w) d.1)
 
 is_distinct-exchange : (w : List ℕ) → is_distinct (exchange_last w) ≡ is_distinct w
-is_distinct-exchange w = same_test (is_distinct (exchange_last w)) (is_distinct w)
+is_distinct-exchange w = same_tests (is_distinct (exchange_last w)) (is_distinct w)
     (λ h. distinct_test w (from_Distinct-exchange w (from_distinct_test (exchange_last w) h)))
     (λ h. distinct_test (exchange_last w) (Distinct-exchange w (from_distinct_test w h)))
 
@@ -168,7 +188,8 @@ has_signed-exchange m face w long = go (is_distinct w) refl
   where
     go : (b : Bool) → is_distinct w ≡ b → has_signed m face (exchange_last w) ≡ has_signed (m + 1) face w
     go true d =
-        ap (λ (b : Bool). b && list_any (is_signed_face m face) (left_out (exchange_last w))) (is_distinct-exchange w ∙ d) ∙ any_signed-exchange m face w (from_distinct_test w d) long
+        ap (λ (b : Bool). b && list_any (is_signed_face m face) (left_out (exchange_last w))) (is_distinct-exchange w ∙ d)
+        ∙ any_signed-exchange m face w (from_distinct_test w d) long
         ∙ sym (ap (λ (b : Bool). b && list_any (is_signed_face (m + 1) face) (left_out w)) d)
     go false d =
         ap (λ (b : Bool). b && list_any (is_signed_face m face) (left_out (exchange_last w))) (is_distinct-exchange w ∙ d)
@@ -203,10 +224,12 @@ sign_after m face w = go (m % 2) (omega arith) refl
   where
     go : (r : ℕ) → r < 2 → m % 2 ≡ r → sign_by (has_signed m face w) (has_signed (m + 1) face w) ≡ signed (is_odd m) (sign_of_face face w)
     go zero h e =
-        ap (λ (b : Bool). sign_by b (has_signed (m + 1) face w)) (has_signed_parity m 0 face w (omega arith)) ∙ ap (λ (b : Bool). sign_by (has_signed 0 face w) b) (has_signed_parity (m + 1) 1 face w (omega arith))
+        ap (λ (b : Bool). sign_by b (has_signed (m + 1) face w)) (has_signed_parity m 0 face w (omega arith))
+        ∙ ap (λ (b : Bool). sign_by (has_signed 0 face w) b) (has_signed_parity (m + 1) 1 face w (omega arith))
         ∙ sym (sign_is_signed face w) ∙ sym (ap (λ (r : ℕ). signed (r == 1) (sign_of_face face w)) e)
     go (suc zero) h e =
-        ap (λ (b : Bool). sign_by b (has_signed (m + 1) face w)) (has_signed_parity m 1 face w (omega arith)) ∙ ap (λ (b : Bool). sign_by (has_signed 1 face w) b) (has_signed_parity (m + 1) 0 face w (omega arith))
+        ap (λ (b : Bool). sign_by b (has_signed (m + 1) face w)) (has_signed_parity m 1 face w (omega arith))
+        ∙ ap (λ (b : Bool). sign_by (has_signed 1 face w) b) (has_signed_parity (m + 1) 0 face w (omega arith))
         ∙ turned (has_signed 0 face w) (has_signed 1 face w) (has_face face w) (has_face_signs face w) ∙ sym (ap neg_ℤ (sign_is_signed face w))
         ∙ sym (ap (λ (r : ℕ). signed (r == 1) (sign_of_face face w)) e)
     go (suc (suc r)) h e = absurd (omega arith)
@@ -231,7 +254,7 @@ sign-exchange face w long =
 
 module _ (f g : ℕ → ℕ) (D : ℕ → Type 0) (back : (x : ℕ) → D x → g (f x) ≡ x) where
   pub is_distinct-map : (w : List ℕ) → Each D w → is_distinct (map f w) ≡ is_distinct w
-  is_distinct-map w all = same_test (is_distinct (map f w)) (is_distinct w)
+  is_distinct-map w all = same_tests (is_distinct (map f w)) (is_distinct w)
       (λ h. distinct_test w (from_Distinct-map w (from_distinct_test (map f w) h)))
       (λ h. distinct_test (map f w) (Distinct-map f g D back w all (from_distinct_test w h)))
     where
@@ -239,13 +262,14 @@ module _ (f g : ℕ → ℕ) (D : ℕ → Type 0) (back : (x : ℕ) → D x → 
       from_Distinct-map [] d = tt
       from_Distinct-map (x ∷ w) d = (
         count_none (nat_eq x) w (λ y i e.
-            let same : y ≡ x = eq_same x y e in
+            let same : y ≡ x = same_number x y e in
             let in_map : In (f x) (map f w) = subst (λ (z : ℕ). In (f z) (map f w)) same (In-map f w y i) in
-            not_In_of_count (f x) (map f w) d.0 in_map),
+            not_there (f x) (map f w) d.0 in_map),
         from_Distinct-map w d.1,
       )
 
-  pub has_signed-map : (m : ℕ) (face w : List ℕ) → sorted face ≡ face → Each D face → Each D w → has_signed m (sorted (map f face)) (map f w) ≡ has_signed (m + inversions (map f face)) face w
+  pub has_signed-map : (m : ℕ) (face w : List ℕ) → sorted face ≡ face → Each D face → Each D w
+      → has_signed m (sorted (map f face)) (map f w) ≡ has_signed (m + inversions (map f face)) face w
   has_signed-map m face w ascends in_face in_w = go (is_distinct w) refl
     where
       go : (b : Bool) → is_distinct w ≡ b → has_signed m (sorted (map f face)) (map f w) ≡ has_signed (m + inversions (map f face)) face w
@@ -272,10 +296,25 @@ module _ (f g : ℕ → ℕ) (D : ℕ → Type 0) (back : (x : ℕ) → D x → 
       ))
 
   -- the image of a face has the sign of the face, turned by the order of its numbers' images
-  pub sign-map : (face w : List ℕ) → sorted face ≡ face → Each D face → Each D w → sign_of_face (sorted (map f face)) (map f w) ≡ signed (is_odd (inversions (map f face))) (sign_of_face face w)
+  pub sign-map : (face w : List ℕ) → sorted face ≡ face → Each D face → Each D w
+      → sign_of_face (sorted (map f face)) (map f w) ≡ signed (is_odd (inversions (map f face))) (sign_of_face face w)
   sign-map face w ascends in_face in_w =
       let n = inversions (map f face) in
       sign_is_signed (sorted (map f face)) (map f w)
-      ∙ ap (λ (b : Bool). sign_by b (has_signed 1 (sorted (map f face)) (map f w))) (has_signed-map 0 face w ascends in_face in_w ∙ has_signed_parity (0 + n) n face w (omega arith))
-      ∙ ap (λ (b : Bool). sign_by (has_signed n face w) b) (has_signed-map 1 face w ascends in_face in_w ∙ has_signed_parity (1 + n) (n + 1) face w (omega arith))
+      ∙ ap (λ (b : Bool). sign_by b (has_signed 1 (sorted (map f face)) (map f w)))
+      (has_signed-map 0 face w ascends in_face in_w ∙ has_signed_parity (0 + n) n face w (omega arith))
+      ∙ ap (λ (b : Bool). sign_by (has_signed n face w) b)
+      (has_signed-map 1 face w ascends in_face in_w ∙ has_signed_parity (1 + n) (n + 1) face w (omega arith))
       ∙ sign_after n face w
+
+-- only the parity of the sign matters
+pub count_parity : (m n : ℕ) (face : List ℕ) (ws : List (List ℕ)) → m % 2 ≡ n % 2 → count_by (has_signed m face) ws ≡ count_by (has_signed n face) ws
+count_parity m n face [] same = refl
+count_parity m n face (w ∷ ws) same =
+    omega (
+      arith,
+      count_by-cons (has_signed m face) w ws,
+      count_by-cons (has_signed n face) w ws,
+      ap bit (has_signed_parity m n face w same),
+      count_parity m n face ws same,
+    )

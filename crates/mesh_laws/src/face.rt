@@ -6,7 +6,7 @@
 
 ghost use Rattle.std.specs.Prelude.{◌≡◌, ◌+◌, ◌≤◌, ◌<◌, ◌^◌, ◌%◌, length, count_by, nat_lt, true, false, unsigned_abs};
 ghost use Rattle.std.specs.List.Sorted.{IsStrictlyIncreasing};
-ghost use Rattle.iso_model.specs.Orders.{has, is_distinct, inversions};
+ghost use Rattle.lists.specs.Orders.{has, is_distinct, inversions};
 ghost use Rattle.iso_model.specs.Faces.{has_face, sign_of_face, face_count, face_sum};
 
 fn has(numbers: &[u32], number: u32) -> bool

@@ -1,5 +1,5 @@
-pub mod Lists
+pub mod FilledLists
 pub mod CellEdges
-pub mod Tuples
+pub mod PlacedTuples
 pub mod Shapes
 pub mod Cubes

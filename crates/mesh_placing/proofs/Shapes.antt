@@ -12,14 +12,15 @@ use Rattle.iso_model.specs.Bipolar.{bipolar_edges, place_in}
 use Rattle.iso_model.specs.Crossing.{crossing, vertex_of}
 use Rattle.iso_model.specs.Faces.{IsMesh}
 use Rattle.iso_model.specs.Tables.{Table, entry_of, IsEntry}
-use Rattle.iso_model.specs.Orders.{numbers}
+use Rattle.lists.specs.Orders.{numbers}
 use Rattle.iso_model.specs.Placed.{placed_tuple, cell_simplices, placed_mesh}
-use Rattle.iso_model.proofs.FaceLaws.{Contains-head, Contains-tail}
 use Rattle.edge_vertex.proofs.LabelSums.{label_few}
 use Rattle.mesh_placing.specs.Placing.{ListsEdges, FitsGrid}
-use Rattle.mesh_placing.proofs.Lists.{filter_all}
+use Rattle.mesh_placing.proofs.FilledLists.{filter_all}
 use Rattle.mesh_placing.proofs.CellEdges.{bipolar_edge-listed, bipolar_edges-crossed, place_below}
-use Rattle.mesh_placing.proofs.Tuples.{bipolar_tuples, length-placed_tuple, All-placed_tuple}
+use Rattle.mesh_placing.proofs.PlacedTuples.{bipolar_tuples, All-placed_tuple}
+use Rattle.lists.proofs.Contained.{Contains-head, Contains-tail}
+use Rattle.iso_model.proofs.SignLaws.{length-placed}
 
 All-flat_map : {X Y : Type 0} (P : Y → Type 0) (f : X → List Y) (xs : List X) → ((x : X) → Contains xs x → All P (f x)) → All P (flat_map f xs)
 All-flat_map P f [] h = λ k d l. absurd (omega (arith, l))
@@ -31,7 +32,8 @@ unfolding cells
 cells-all kind g iso = filter_all (is_kept (volume kind g iso None)) (numbers (cell_count kind g.sizes)) (λ cell. refl)
 
 -- the edges of a kept cell that are bipolar in its label have places in the list of all bipolar edges
-pub lists_edges : (v : Volume) → HasDimension v.kind (length v.sizes) → (cell : ℕ) → Contains (cells v) cell → ListsEdges v.kind (length v.sizes) v.sizes (bipolar_edges v) cell (label_of v cell)
+pub lists_edges : (v : Volume) → HasDimension v.kind (length v.sizes) → (cell : ℕ) → Contains (cells v) cell
+    → ListsEdges v.kind (length v.sizes) v.sizes (bipolar_edges v) cell (label_of v cell)
 lists_edges v has cell kept e he bipolar = place_below (bipolar_edges v) (edge v.kind v.sizes cell e) (bipolar_edge-listed v has cell e kept he bipolar)
 
 -- ---- the shape of a placed mesh
@@ -56,9 +58,11 @@ module _ (kind : Kind) (g : Grid) (iso : ℤ) (t : Table) (fits : FitsGrid kind 
 
   pub entry_sound : (label : ℕ) → label < label_count kind (length g.sizes) → IsEntry kind (length g.sizes) (entry_of t label)
   entry_sound label h =
-      let labels : label_count t.kind t.dimension ≡ label_count kind (length g.sizes) = ap (λ (k : Kind). label_count k t.dimension) fits.same_kind ∙ ap (label_count kind) fits.same_dimension in
+      let labels : label_count t.kind t.dimension ≡ label_count kind (length g.sizes) =
+          ap (λ (k : Kind). label_count k t.dimension) fits.same_kind ∙ ap (label_count kind) fits.same_dimension in
       let inside : label < length t.entries = omega (arith, h, labels, fits.table.whole) in
-      subst (λ (d : ℕ). IsEntry kind d (entry_of t label)) fits.same_dimension (subst (λ (k : Kind). IsEntry k t.dimension (entry_of t label)) fits.same_kind (fits.table.sound label [] inside))
+      subst (λ (d : ℕ). IsEntry kind d (entry_of t label)) fits.same_dimension
+          (subst (λ (k : Kind). IsEntry k t.dimension (entry_of t label)) fits.same_kind (fits.table.sound label [] inside))
 
   -- a placed mesh has the dimension of the grid
   pub placed_mesh-shape : IsMesh (length g.sizes) (placed_mesh here t)
@@ -68,8 +72,11 @@ module _ (kind : Kind) (g : Grid) (iso : ℤ) (t : Table) (fits : FitsGrid kind 
         let low = (bipolar_edges-crossed kind g iso has k e h).low in
         length-crossing _ _ _ _ ∙ valued_long g.sizes _ low);
     corners = All-flat_map (λ w. length w ≡ length g.sizes) (cell_simplices here t (bipolar_edges here)) (cells here) (λ cell c.
-        All-map (λ w. length w ≡ length g.sizes) (placed_tuple (is_odd_cell kind g.sizes cell) (λ e. place_in (bipolar_edges here) (edge kind g.sizes cell e))) (entry_of t (label_of here cell)) (λ k w h.
-        length-placed_tuple (is_odd_cell kind g.sizes cell) (λ e. place_in (bipolar_edges here) (edge kind g.sizes cell e)) (slice_index_or (entry_of t (label_of here cell)) k w)
+        All-map (λ w. length w ≡ length g.sizes)
+            (placed_tuple (is_odd_cell kind g.sizes cell) (λ e. place_in (bipolar_edges here) (edge kind g.sizes cell e)))
+                (entry_of t (label_of here cell)) (λ k w h.
+        length-placed (is_odd_cell kind g.sizes cell) (λ e. place_in (bipolar_edges here) (edge kind g.sizes cell e))
+            (slice_index_or (entry_of t (label_of here cell)) k w)
         ∙ ((entry_sound (label_of here cell) (labelled cell)).1 k w h).0));
   }
 
@@ -87,5 +94,6 @@ module _ (kind : Kind) (g : Grid) (iso : ℤ) (t : Table) (fits : FitsGrid kind 
       let bipolar = bipolar_tuples kind (length g.sizes) label (entry_of t label) (fits.keeps_edges label below) in
       All-map (All P) (placed_tuple (is_odd_cell kind g.sizes cell) place) (entry_of t label) (λ k w h.
       All-placed_tuple P (is_odd_cell kind g.sizes cell) place (slice_index_or (entry_of t label) k w) (λ j e i.
-      let placed : place (slice_index_or (slice_index_or (entry_of t label) k w) j e) < length edges = lists_edges here has cell c (slice_index_or (slice_index_or (entry_of t label) k w) j e) ((sound.1 k w h).1 j e i) (bipolar k w h j e i) in
+      let placed : place (slice_index_or (slice_index_or (entry_of t label) k w) j e) < length edges =
+          lists_edges here has cell c (slice_index_or (slice_index_or (entry_of t label) k w) j e) ((sound.1 k w h).1 j e i) (bipolar k w h j e i) in
       omega (arith, placed, length-map edges (vertex_of here)))))

@@ -12,7 +12,7 @@ use Rattle.iso_model.specs.Acceptance.{rule_edges}
 use Rattle.iso_model.specs.Placed.{placed_tuple}
 use Rattle.cube_cells.specs.declared.cubes.SignedCube.{SignedCube}
 use Rattle.cube_cells.specs.SignedCubes.{IsSignedCube}
-use Rattle.edge_vertex.specs.Ends.{AreNear}
+use Rattle.edge_vertex.specs.EdgeEnds.{AreNear}
 
 -- a table fits a grid: it is one of cells of this kind in the dimension of the grid, and each entry has the bipolar edges of its label and no others
 pub record FitsGrid (kind : Kind) (g : Grid) (t : Table) : Type 0 where

@@ -11,7 +11,7 @@ use Rattle.iso_model.specs.Splits.{cube_count}
 use Rattle.iso_model.specs.Values.{product, sample_number}
 use Rattle.grid_split.proofs.CubeNumbers.{product_of, cubes_below_product}
 use Rattle.split_laws.proofs.Coordinates.{quotient_below, positive_factor}
-use Rattle.mixed_cubes.specs.Faces.{corner_number}
+use Rattle.mixed_cubes.specs.CubeFaces.{corner_number}
 
 -- the sizes after the first
 abbrev pub rest : List ℕ → List ℕ
@@ -51,9 +51,6 @@ cubes_below a b c h = le_trans (mul-le-mul_left (a - 1) h) (mul-le-mul_right c (
 
 -- ---- the first sample of a cube
 
-pub next_below : (x n m p : ℕ) → x < n → m < p → x + n * m < n * p
-next_below x n m p h k = let more : n * (m + 1) ≤ n * p = mul-le-mul_left n (omega (arith, k)) in omega (arith, more, h)
-
 pub record OneAxis (size : ℕ) (others : List ℕ) (cube : ℕ) : Type 0 where
   pub span : 0 < size - 1
   pub inside : cube / (size - 1) < cube_count others
@@ -82,7 +79,8 @@ map_agrees f g same (x ∷ xs) = rw (same x, map_agrees f g same xs) refl
 pub corner_number_more : (size : ℕ) (others : List ℕ) (k : ℕ) → corner_number (size ∷ others) k ≡ k % 2 + size * corner_number others (k / 2)
 corner_number_more size others k =
     let bits : map (λ i. bit_at k i) (range_with_len (0 + 1) (length others)) ≡ map (λ i. bit_at (k / 2) i) (range_with_len 0 (length others)) =
-    map_shifted (λ i. bit_at k i) 0 (length others) ∙ map_agrees (λ i. bit_at k (suc i)) (λ i. bit_at (k / 2) i) (λ i. bit_at-suc k i) (range_with_len 0 (length others)) in
+    map_shifted (λ i. bit_at k i) 0 (length others)
+        ∙ map_agrees (λ i. bit_at k (suc i)) (λ i. bit_at (k / 2) i) (λ i. bit_at-suc k i) (range_with_len 0 (length others)) in
     ap (λ (b : ℕ). b + size * sample_number others (map (λ i. bit_at k i) (range_with_len (0 + 1) (length others)))) (bit_at_lowest k)
     ∙ ap (λ (xs : List ℕ). k % 2 + size * sample_number others xs) bits
 

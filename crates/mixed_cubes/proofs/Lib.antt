@@ -1,7 +1,6 @@
 pub mod AxisSteps
-pub mod Rows
+pub mod SampleRows
 pub mod CubeFaces
 pub mod RowLaws
 pub mod OffsetCases
 pub mod OneSign
-pub mod Powers

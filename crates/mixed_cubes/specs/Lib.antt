@@ -1,3 +1,3 @@
 pub mod CubePlaces
-pub mod Faces
+pub mod CubeFaces
 pub mod Mixed

@@ -2,12 +2,12 @@
 
 ghost use Rattle.std.specs.Prelude.{◌≡◌, ℕ, ◌+◌, ◌-◌, ◌*◌, ◌^◌, [], ◌∷◌, ◌++◌, ◌<◌, ◌≤◌, length, map, filter, slice_index, unsigned_abs, All, IfOk, OnOk, if◌then◌else◌};
 ghost use Rattle.std.specs.List.{range_with_len};
-ghost use Rattle.iso_model.specs.Orders.{numbers};
+ghost use Rattle.lists.specs.Orders.{numbers};
 ghost use Rattle.iso_model.specs.Splits.{cube_count as count_of};
 ghost use Rattle.iso_model.specs.Values.{IsRegularGrid, product};
 ghost use Rattle.mixed_cubes.specs.Mixed.{is_mixed};
 ghost use Rattle.mixed_cubes.specs.CubePlaces.{place_of, place_in_row};
-ghost use Rattle.mixed_cubes.specs.Faces.{is_mixed_from, corner_number as corner_number_of};
+ghost use Rattle.mixed_cubes.specs.CubeFaces.{is_mixed_from, corner_number as corner_number_of};
 
 use crate::faces::{are_mixed, face_signs};
 use crate::places::{corner_number, cube_count, first_sample};

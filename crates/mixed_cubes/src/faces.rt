@@ -2,7 +2,7 @@
 
 ghost use Rattle.std.specs.Prelude.{◌≡◌, ℕ, ◌+◌, ◌<◌, ◌≤◌, not, ◌&&◌, ◌||◌, length, slice_index, int_le};
 ghost use Rattle.std.specs.List.{list_any};
-ghost use Rattle.mixed_cubes.specs.Faces.{face_samples};
+ghost use Rattle.mixed_cubes.specs.CubeFaces.{face_samples};
 
 // Whether some sample is at least the isovalue, and whether some sample is below it.
 #[derive(Clone, Copy)]

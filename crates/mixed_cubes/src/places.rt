@@ -3,7 +3,7 @@
 ghost use Rattle.std.specs.Prelude.{◌≡◌, ◌+◌, ◌*◌, ◌^◌, ◌<◌, ◌≤◌, length, All};
 ghost use Rattle.iso_model.specs.Splits.{cube_count as count_of, cube_at};
 ghost use Rattle.iso_model.specs.Values.{product, sample_number};
-ghost use Rattle.mixed_cubes.specs.Faces.{corner_number as corner_number_of};
+ghost use Rattle.mixed_cubes.specs.CubeFaces.{corner_number as corner_number_of};
 
 // The number of cubes of a grid of these sizes.
 pub(crate) fn cube_count(sizes: &[u64]) -> u64

@@ -19,7 +19,8 @@ small a b c d p q r s =
 size_at : (sizes : List ℕ) (k : ℕ) → AreSizes sizes → k < length sizes → get_or sizes k 0 ≤ 4294967295
 size_at sizes k s h = let p : (1 ≤ get_or sizes k 0) × (get_or sizes k 0 ≤ 4294967295) = s k 0 h in p.1
 
-pub counts : (dims : ℕ) (places : List ℕ) → HasShape dims places → 2 ≤ length (take dims places) → AreSizes (take dims places) → CountsPlaces (take dims places) places
+pub counts : (dims : ℕ) (places : List ℕ) → HasShape dims places → 2 ≤ length (take dims places) → AreSizes (take dims places)
+    → CountsPlaces (take dims places) places
 counts dims [] shape two sized = absurd (omega (arith, shape.four))
 counts dims (a ∷ []) shape two sized = absurd (omega (arith, shape.four))
 counts dims (a ∷ b ∷ []) shape two sized = absurd (omega (arith, shape.four))
@@ -38,11 +39,15 @@ counts (suc (suc (suc zero))) (a ∷ b ∷ c ∷ d ∷ []) shape two sized =
     let q : d ≡ 1 = (let e = shape.beyond in cc) in
     record {
       same = rw q (omega arith);
-      fits = small a b c d (size_at (a ∷ b ∷ c ∷ []) 0 sized (omega arith)) (size_at (a ∷ b ∷ c ∷ []) 1 sized (omega arith)) (size_at (a ∷ b ∷ c ∷ []) 2 sized (omega arith)) (omega arith);
+      fits =
+          small a b c d (size_at (a ∷ b ∷ c ∷ []) 0 sized (omega arith)) (size_at (a ∷ b ∷ c ∷ []) 1 sized (omega arith))
+              (size_at (a ∷ b ∷ c ∷ []) 2 sized (omega arith)) (omega arith);
     }
 counts (suc (suc (suc (suc (suc n))))) (a ∷ b ∷ c ∷ d ∷ []) shape two sized = absurd (omega (arith, shape.few))
 counts (suc (suc (suc (suc zero)))) (a ∷ b ∷ c ∷ d ∷ []) shape two sized =
     record {
       same = omega arith;
-      fits = small a b c d (size_at (a ∷ b ∷ c ∷ d ∷ []) 0 sized (omega arith)) (size_at (a ∷ b ∷ c ∷ d ∷ []) 1 sized (omega arith)) (size_at (a ∷ b ∷ c ∷ d ∷ []) 2 sized (omega arith)) (size_at (a ∷ b ∷ c ∷ d ∷ []) 3 sized (omega arith));
+      fits =
+          small a b c d (size_at (a ∷ b ∷ c ∷ d ∷ []) 0 sized (omega arith)) (size_at (a ∷ b ∷ c ∷ d ∷ []) 1 sized (omega arith))
+              (size_at (a ∷ b ∷ c ∷ d ∷ []) 2 sized (omega arith)) (size_at (a ∷ b ∷ c ∷ d ∷ []) 3 sized (omega arith));
     }

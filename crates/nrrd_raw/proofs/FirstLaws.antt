@@ -1,19 +1,20 @@
 -- Taking the first line.
-use Rattle.std.proofs.Common.{true, false, ◌≡◌, inl, inr, ℕ, zero, suc, ◌<◌, ◌≤◌, List, [], ◌∷◌, ◌++◌, length, get_or, Option, Some, None, sym, ap, ◌∙◌, subst, arith, length-append}
+use Rattle.std.proofs.Common.{true, false, ◌≡◌, inl, inr, ℕ, zero, suc, ◌<◌, ◌≤◌, List, [], ◌∷◌, ◌++◌, length, get_or, Option, Some, None, sym, ap}
+use Rattle.std.proofs.Common.{◌∙◌, subst, arith, length-append}
 use Rattle.std.specs.Prelude.{Result, Ok, Err, OnOk, IfErr, IfSome, IsTrue}
 use Rattle.std.specs.Io.KnownBytes.{Consumes}
 use Rattle.std.proofs.lemmas.List.{append_assoc}
-use Rattle.iso_model.specs.HeaderLines.{begins_right}
+use Rattle.iso_formats.specs.HeaderLines.{begins_right}
 use Rattle.nrrd_raw.specs.declared.faults.GridFault.{GridFault}
 use Rattle.nrrd_raw.specs.declared.faults.GridFault.TheVariants.{Shelf}
-use Rattle.nrrd_raw.specs.Causes.{cause_of}
-use Rattle.nrrd_raw.specs.Faults.{is_shelf_fault}
-use Rattle.iso_model.specs.GridFaults.{HasHeaderFault, no_magic}
+use Rattle.nrrd_raw.specs.FaultCauses.{cause_of}
+use Rattle.nrrd_raw.specs.GridFaultWords.{is_shelf_fault}
+use Rattle.iso_formats.specs.GridFaults.{HasHeaderFault, no_magic}
 use Rattle.std.proofs.lemmas.Bool.{false≢true}
 use Rattle.std.specs.Prelude.{drop, ◌==◌}
-use Rattle.nrrd_raw.specs.Ends.{without_return}
+use Rattle.nrrd_raw.specs.LineEnds.{without_return}
 use Rattle.nrrd_raw.proofs.FrontLaws.{front-end}
-use Rattle.nrrd_raw.specs.Fronts.{texts_of, IsFront, HasFront, FitsFirst, TakesFitting, IsUnfit, IsNoBeginning, least_first, greatest_first}
+use Rattle.nrrd_raw.specs.HeaderFronts.{texts_of, IsFront, HasFront, FitsFirst, TakesFitting, IsUnfit, IsNoBeginning, least_first, greatest_first}
 use Rattle.nrrd_raw.specs.Taken.{TakesByte, TakesAtMost}
 use Rattle.nrrd_raw.proofs.TakenLaws.{TakesAtMost-consumed, TakesAtMost-none}
 use Rattle.nrrd_raw.proofs.MagicLaws.{wrong-place, wrong-return, front-return}
@@ -29,23 +30,27 @@ least_some (suc (suc (suc (suc (suc (suc zero)))))) m = omega arith
 least_some (suc (suc (suc (suc (suc (suc (suc zero))))))) m = omega arith
 least_some (suc (suc (suc (suc (suc (suc (suc (suc k)))))))) m = absurd (omega arith)
 
-pub no_beginning-place : (old now : Option (List ℕ)) (front : List ℕ) (place : ℕ) (fault : GridFault) → FitsFirst front place → place < 8 → Consumes old now front
+pub no_beginning-place : (old now : Option (List ℕ)) (front : List ℕ) (place : ℕ) (fault : GridFault) → FitsFirst front place → place < 8
+    → Consumes old now front
     → IsUnfit now (get_or least_first place 0) (get_or greatest_first place 0) fault → IsNoBeginning old fault
 no_beginning-place old now front place fault f l c (inl s) = inl s
 no_beginning-place old now front place fault f l c (inr w) = inr (w.0, wrong-place old now front place f l c w.1)
 
-pub no_beginning-return : {X : Type 0} (r : Result X GridFault) (old now : Option (List ℕ)) (front before : List ℕ) → length front ≡ 8 → before ≡ front ++ 13 ∷ [] → Consumes old now before
+pub no_beginning-return : {X : Type 0} (r : Result X GridFault) (old now : Option (List ℕ)) (front before : List ℕ) → length front ≡ 8
+    → before ≡ front ++ 13 ∷ [] → Consumes old now before
     → IfErr r (IsUnfit now 10 10) → IfErr r (IsNoBeginning old)
 no_beginning-return (Ok x) old now front before l e c u = tt
 no_beginning-return (Err k) old now front before l e c (inl s) = inl s
 no_beginning-return (Err k) old now front before l e c (inr w) = inr (w.0, wrong-return old now front l (subst (λ (bs : List ℕ). Consumes old now bs) e c) w.1)
 
-pub first-return : {X : Type 0} (r : Result X GridFault) (old now : Option (List ℕ)) (front before after : List ℕ) → FitsFirst front 8 → before ≡ front ++ 13 ∷ []
+pub first-return : {X : Type 0} (r : Result X GridFault) (old now : Option (List ℕ)) (front before after : List ℕ) → FitsFirst front 8
+    → before ≡ front ++ 13 ∷ []
     → OnOk r (TakesFitting old now 10 10 before after) → OnOk r (HasFront after (length after))
 first-return (Err k) old now front before after f e t = tt
 first-return (Ok x) old now front before after f e t =
     let ten : t.byte ≡ 10 = omega (arith, t.low, t.high) in
-    let whole : after ≡ front ++ 13 ∷ 10 ∷ [] = t.pushed ∙ ap (λ (b : ℕ). before ++ b ∷ []) ten ∙ ap (λ zs. zs ++ 10 ∷ []) e ∙ append_assoc front (13 ∷ []) (10 ∷ []) in
+    let whole : after ≡ front ++ 13 ∷ 10 ∷ [] =
+        t.pushed ∙ ap (λ (b : ℕ). before ++ b ∷ []) ten ∙ ap (λ zs. zs ++ 10 ∷ []) e ∙ append_assoc front (13 ∷ []) (10 ∷ []) in
     subst (λ (xs : List ℕ). HasFront xs (length xs)) (sym whole) (front-return front f)
 
 pub taken-byte : (old now : Option (List ℕ)) (o : Option ℕ) → TakesByte old now o → TakesAtMost 1 old now
@@ -74,20 +79,18 @@ shelf_fault bytes fault s = absurd (no_shelf s)
     no_shelf : false ≡ true → ⊥
     no_shelf e = false≢true e
 
-pub no_beginning-fault : (old : Option (List ℕ)) (fault : GridFault) → IsNoBeginning old fault → IfSome old (λ bytes. IfSome (cause_of fault) (HasHeaderFault bytes))
+pub no_beginning-fault : (old : Option (List ℕ)) (fault : GridFault) → IsNoBeginning old fault
+    → IfSome old (λ bytes. IfSome (cause_of fault) (HasHeaderFault bytes))
 no_beginning-fault None fault w = tt
 no_beginning-fault (Some bytes) fault (inl s) = shelf_fault bytes fault s
 no_beginning-fault (Some bytes) fault (inr w) = subst (λ (k : GridFault). IfSome (cause_of k) (HasHeaderFault bytes)) (sym w.0) (no_magic w.1)
-
-pub shelf-fault : (old : Option (List ℕ)) (fault : GridFault) → IsTrue (is_shelf_fault fault) → IfSome old (λ bytes. IfSome (cause_of fault) (HasHeaderFault bytes))
-shelf-fault None fault s = tt
-shelf-fault (Some bytes) fault s = shelf_fault bytes fault s
 
 pub some_front : (front : List ℕ) → IsFront front → 0 < length front
 some_front [] f = absurd (false≢true (f.begins []))
 some_front (x ∷ xs) f = omega arith
 
-pub is_front : (front : List ℕ) (start : ℕ) → HasFront front start → (length (without_return (drop start front)) == 0) ≡ true → length front < 65536 → IsFront (front ++ 10 ∷ [])
+pub is_front : (front : List ℕ) (start : ℕ) → HasFront front start → (length (without_return (drop start front)) == 0) ≡ true → length front < 65536
+    → IsFront (front ++ 10 ∷ [])
 is_front front start f e l = record {
   texts = texts_of f.lines;
   lines = front-end front start f e (omega (arith, length-append front (10 ∷ []), l));

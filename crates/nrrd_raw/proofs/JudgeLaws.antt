@@ -1,21 +1,22 @@
 -- The lines of a header, judged one after another.
-use Rattle.std.proofs.Common.{◌≡◌, ◌⊎◌, inl, inr, ℕ, zero, suc, ◌+◌, ◌-◌, ◌<◌, ◌≤◌, false, not, List, [], ◌∷◌, ◌++◌, map, length, take, drop, get_or, Option, Some, None, refl, sym, ap, ◌∙◌, subst, arith, length-append, append-nil}
+use Rattle.std.proofs.Common.{◌≡◌, ◌⊎◌, inl, inr, ℕ, zero, suc, ◌+◌, ◌-◌, ◌<◌, ◌≤◌, false, not, List, [], ◌∷◌, ◌++◌, map, length, take, drop, get_or}
+use Rattle.std.proofs.Common.{Option, Some, None, refl, sym, ap, ◌∙◌, subst, arith, length-append, append-nil}
 use Rattle.std.specs.Prelude.{Result, Ok, Err, IfOk, IfErr, IsFalse, ◌==◌, nat_eq, flat_map, slice_index_or, IsTrue}
 use Rattle.std.specs.List.{AllPass, position_or_len, range_with_len}
 use Rattle.std.proofs.lemmas.Bool.{false≢true, cases_lt}
 use Rattle.std.proofs.lemmas.List.{append_assoc, take_more, take_all, length-take-le, get_or_append_left, get_or-append_right, length-map, drop_all, drop_more}
-use Rattle.iso_model.specs.HeaderLines.{Line, line_bytes, is_filled, HasLines, is_first_line, content, first_some}
-use Rattle.iso_model.specs.GridFile.{Header, SpellHeader, is_sound_line}
-use Rattle.iso_model.specs.GridFaults.{GridFault, line_fault, content_fault, lines_fault, missing_fault, count_fault, all_fields}
-use Rattle.iso_model.proofs.HeaderLaws.{header_of_lines}
+use Rattle.iso_formats.specs.HeaderLines.{Line, line_bytes, is_filled, HasLines, is_first_line, content, first_some}
+use Rattle.iso_formats.specs.GridFile.{Header, SpellHeader, is_sound_line}
+use Rattle.iso_formats.specs.GridFaults.{GridFault, line_fault, content_fault, lines_fault, missing_fault, count_fault, all_fields}
+use Rattle.iso_formats.proofs.HeaderLaws.{header_of_lines}
 use Rattle.nrrd_raw.specs.declared.stated.Stated.{Stated}
 use Rattle.nrrd_raw.specs.declared.faults.GridFault as fault
 use Rattle.nrrd_raw.specs.declared.faults.GridFault.TheVariants as variant
-use Rattle.nrrd_raw.specs.Faults.{is_header_fault, is_shelf_fault}
-use Rattle.nrrd_raw.specs.Causes.{cause_of}
-use Rattle.nrrd_raw.specs.Ends.{first_text}
+use Rattle.nrrd_raw.specs.GridFaultWords.{is_header_fault, is_shelf_fault}
+use Rattle.nrrd_raw.specs.FaultCauses.{cause_of}
+use Rattle.nrrd_raw.specs.LineEnds.{first_text}
 use Rattle.nrrd_raw.specs.States.{States, AddsLine, HasCause, whole_fault}
-use Rattle.nrrd_raw.proofs.LineLaws.{Steps, steps, line_bytes-some}
+use Rattle.nrrd_raw.proofs.LineEndLaws.{Steps, steps, line_bytes-some}
 
 abbrev texts_of : List Line → List (List ℕ)
 texts_of ls = map (λ (l : Line). l.text) ls
@@ -39,7 +40,8 @@ first_of : (texts : List (List ℕ)) → IsTrue (is_first_line (slice_index_or t
 first_of [] f = absurd (false≢true f)
 first_of (t ∷ ts) f = omega arith
 
-pub reading-begin : (bytes : List ℕ) (texts : List (List ℕ)) (p : HasLines bytes texts []) (text : List ℕ) (next : ℕ) (s : Stated) → IsTrue (is_first_line (slice_index_or texts 0 []))
+pub reading-begin : (bytes : List ℕ) (texts : List (List ℕ)) (p : HasLines bytes texts []) (text : List ℕ) (next : ℕ) (s : Stated)
+    → IsTrue (is_first_line (slice_index_or texts 0 []))
     → ReadsLine bytes 0 text next → ((ts : List (List ℕ)) → length ts ≡ 1 → States s ts) → ReadingOf texts p.lines bytes next 1 s
 reading-begin bytes texts p text next s f r h =
     let count = line_count texts p.lines p.read in
@@ -48,7 +50,8 @@ reading-begin bytes texts p text next s f r h =
     record { few = some; left = st.left; stated = h (take 1 texts) (length-take-le 1 texts some); clean = λ j a b. absurd (omega arith) }
 
 -- the text that is read is that of its line; an empty one is the last
-reads_text : (texts : List (List ℕ)) (ls : List Line) (n : ℕ) (text : List ℕ) → texts_of ls ≡ texts ++ [] ∷ [] → n ≤ length texts → text ≡ slice_index_or (texts_of ls) n []
+reads_text : (texts : List (List ℕ)) (ls : List Line) (n : ℕ) (text : List ℕ) → texts_of ls ≡ texts ++ [] ∷ [] → n ≤ length texts
+    → text ≡ slice_index_or (texts_of ls) n []
     → ((n < length texts) × (text ≡ slice_index_or texts n [])) ⊎ ((n ≡ length texts) × (text ≡ []))
 reads_text texts ls n text e few t =
     let whole : text ≡ slice_index_or (texts ++ [] ∷ []) n [] = t ∙ ap (λ (us : List (List ℕ)). slice_index_or us n []) e in
@@ -66,21 +69,24 @@ some_here [] ys x e = absurd (cc)
 some_here (None ∷ xs) ys x e = some_here xs ys x e
 some_here (Some y ∷ xs) ys x e = e
 
-range_some : (f : ℕ → Option GridFault) (a n i : ℕ) (x : GridFault) → ((j : ℕ) → a ≤ j → j < i → f j ≡ None) → a ≤ i → i < a + n → f i ≡ Some x → first_some (map f (range_with_len a n)) ≡ Some x
+range_some : (f : ℕ → Option GridFault) (a n i : ℕ) (x : GridFault) → ((j : ℕ) → a ≤ j → j < i → f j ≡ None) → a ≤ i → i < a + n → f i ≡ Some x
+    → first_some (map f (range_with_len a n)) ≡ Some x
 range_some f a zero i x h l m e = absurd (omega arith)
 range_some f a (suc n) i x h l m e = elim (cases_lt a i) [
   | inl more ↦ rw (h a (omega arith) more) (range_some f (a + 1) n i x (λ j p q. h j (omega arith) q) (omega arith) (omega arith) e)
   | inr here ↦ (let same : i ≡ a = omega arith in rw (ap f (sym same) ∙ e) refl)
 ]
 
-own_fault : (texts : List (List ℕ)) (n : ℕ) (x : GridFault) → ((j : ℕ) → 1 ≤ j → j < n → line_fault texts j ≡ None) → 1 ≤ n → n < length texts → line_fault texts n ≡ Some x → lines_fault texts ≡ Some x
+own_fault : (texts : List (List ℕ)) (n : ℕ) (x : GridFault) → ((j : ℕ) → 1 ≤ j → j < n → line_fault texts j ≡ None) → 1 ≤ n → n < length texts
+    → line_fault texts n ≡ Some x → lines_fault texts ≡ Some x
 unfolding lines_fault
 own_fault texts n x clean one more e =
     let own = map (line_fault texts) (range_with_len 1 (length texts - 1)) in
     some_here (own ++ map (missing_fault texts) all_fields) (count_fault texts ∷ []) x
     (some_here own (map (missing_fault texts) all_fields) x (range_some (line_fault texts) 1 (length texts - 1) n x clean one (omega arith) e))
 
-module _ (bytes : List ℕ) (texts : List (List ℕ)) (p : HasLines bytes texts []) (at n : ℕ) (s : Stated) (r : ReadingOf texts p.lines bytes at n s) (text : List ℕ) (next : ℕ) (line : ReadsLine bytes at text next) where
+module _ (bytes : List ℕ) (texts : List (List ℕ)) (p : HasLines bytes texts []) (at n : ℕ) (s : Stated) (r : ReadingOf texts p.lines bytes at n s)
+    (text : List ℕ) (next : ℕ) (line : ReadsLine bytes at text next) where
   step : Steps bytes p.lines at n text next
   step = steps bytes p.lines at n text next p.are_lines (omega (arith, line_count texts p.lines p.read, r.few)) r.left line.text_is line.next_is
 
@@ -98,9 +104,12 @@ module _ (bytes : List ℕ) (texts : List (List ℕ)) (p : HasLines bytes texts 
   ]
 
   line_is : (l : 0 < length text) (number : ℕ) → number ≡ n + 1 → line_fault texts n ≡ content_fault (take n texts) number (content text)
-  line_is l number e = ap (λ (i : ℕ). content_fault (take n texts) i (content (slice_index_or texts n []))) (sym e) ∙ ap (λ (t : List ℕ). content_fault (take n texts) number (content t)) (sym (within l).1)
+  line_is l number e =
+      ap (λ (i : ℕ). content_fault (take n texts) i (content (slice_index_or texts n []))) (sym e)
+          ∙ ap (λ (t : List ℕ). content_fault (take n texts) number (content t)) (sym (within l).1)
 
-  pub reading-more : (number : ℕ) (s' : Stated) → 0 < length text → number ≡ n + 1 → AddsLine s s' number (content text) → ReadingOf texts p.lines bytes next (n + 1) s'
+  pub reading-more : (number : ℕ) (s' : Stated) → 0 < length text → number ≡ n + 1 → AddsLine s s' number (content text)
+      → ReadingOf texts p.lines bytes next (n + 1) s'
   reading-more number s' l e h =
       let w = within l in
       let len = length-take-le n texts r.few in
@@ -116,16 +125,24 @@ module _ (bytes : List ℕ) (texts : List (List ℕ)) (p : HasLines bytes texts 
         ];
       }
 
-  pub reading-fault : (number : ℕ) (f : fault.GridFault) (x : GridFault) → 0 < length text → 1 ≤ n → number ≡ n + 1 → HasCause s number (content text) f → cause_of f ≡ Some x → lines_fault texts ≡ Some x
+  pub reading-fault : (number : ℕ) (f : fault.GridFault) (x : GridFault) → 0 < length text → 1 ≤ n → number ≡ n + 1
+      → HasCause s number (content text) f → cause_of f ≡ Some x → lines_fault texts ≡ Some x
   reading-fault number f x l one e h c = own_fault texts n x r.clean one (within l).0 (line_is l number e ∙ sym (h (take n texts) r.stated) ∙ c)
 
-pub reading-ended : (bytes : List ℕ) (texts : List (List ℕ)) (p : HasLines bytes texts []) (at n : ℕ) (s : Stated) → ReadingOf texts p.lines bytes at n s → length bytes ≤ at → ⊥
+pub reading-ended : (bytes : List ℕ) (texts : List (List ℕ)) (p : HasLines bytes texts []) (at n : ℕ) (s : Stated)
+    → ReadingOf texts p.lines bytes at n s → length bytes ≤ at → ⊥
 reading-ended bytes texts p at n s r l =
     let count = line_count texts p.lines p.read in
     let more : n < length p.lines = omega (arith, count, r.few) in
     let none : [] ≡ flat_map line_bytes (drop n p.lines) = sym (drop_all at bytes l) ∙ r.left in
     let form = none ∙ ap (flat_map line_bytes) (drop_more p.lines n (record { text = []; has_return = false }) more) in
-    omega (arith, ap length form, length-append (line_bytes (get_or p.lines n (record { text = []; has_return = false }))) (flat_map line_bytes (drop (n + 1) p.lines)), line_bytes-some (get_or p.lines n (record { text = []; has_return = false })))
+    omega
+        (
+          arith,
+          ap length form,
+          length-append (line_bytes (get_or p.lines n (record { text = []; has_return = false }))) (flat_map line_bytes (drop (n + 1) p.lines)),
+          line_bytes-some (get_or p.lines n (record { text = []; has_return = false }))
+        )
 
 -- ---- the end of the lines
 
@@ -143,7 +160,8 @@ unfolding lines_fault
 lines_fault-whole texts clean =
     let own = map (line_fault texts) (range_with_len 1 (length texts - 1)) in
     ap first_some (append_assoc own (map (missing_fault texts) all_fields) (count_fault texts ∷ []))
-    ∙ some_none own (map (missing_fault texts) all_fields ++ count_fault texts ∷ []) (range_none (line_fault texts) 1 (length texts - 1) (λ i l m. clean i l (omega arith)))
+    ∙ some_none own (map (missing_fault texts) all_fields ++ count_fault texts ∷ [])
+        (range_none (line_fault texts) 1 (length texts - 1) (λ i l m. clean i l (omega arith)))
 
 -- ---- what the code answers behind the last line
 
@@ -152,7 +170,8 @@ pub record IsDone (texts : List (List ℕ)) (s : Stated) : Type 0 where
   pub stated : States s texts
   pub clean : (j : ℕ) → 1 ≤ j → j < length texts → line_fault texts j ≡ None
 
-pub reading-done : (texts : List (List ℕ)) (ls : List Line) (bytes : List ℕ) (at n : ℕ) (s : Stated) → ReadingOf texts ls bytes at n s → n ≡ length texts → IsDone texts s
+pub reading-done : (texts : List (List ℕ)) (ls : List Line) (bytes : List ℕ) (at n : ℕ) (s : Stated) → ReadingOf texts ls bytes at n s
+    → n ≡ length texts → IsDone texts s
 reading-done texts ls bytes at n s r e = record {
   stated = subst (λ (ts : List (List ℕ)). States s ts) (take_all n texts (omega arith)) r.stated;
   clean = λ j a b. r.clean j a (omega arith);
@@ -163,7 +182,10 @@ Done bytes s = (texts : List (List ℕ)) → HasLines bytes texts [] → IsTrue 
 
 pub answers-spelled : (r : Result Header fault.GridFault) (bytes : List ℕ) (s : Stated) → Done bytes s
     → IfOk r (λ h. (texts : List (List ℕ)) → States s texts → whole_fault texts ≡ None)
-    → IfOk r (λ h. (texts : List (List ℕ)) → States s texts → AllPass is_sound_line (drop 1 texts) → IsTrue (is_first_line (slice_index_or texts 0 [])) → SpellHeader texts h)
+    → IfOk r
+        (λ h.
+             (texts : List (List ℕ)) → States s texts → AllPass is_sound_line (drop 1 texts) → IsTrue (is_first_line (slice_index_or texts 0 []))
+                 → SpellHeader texts h)
     → IfOk r (λ h. (texts : List (List ℕ)) → HasLines bytes texts [] → IsTrue (is_first_line (slice_index_or texts 0 [])) → SpellHeader texts h)
 answers-spelled (Err e) bytes s d w h = tt
 answers-spelled (Ok k) bytes s d w h = λ texts p f.

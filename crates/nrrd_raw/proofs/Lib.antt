@@ -3,10 +3,10 @@ pub mod FirstLaws
 pub mod Counts
 pub mod FrontLaws
 pub mod JudgeLaws
-pub mod LineLaws
+pub mod LineEndLaws
 pub mod MagicLaws
 pub mod NumeralLaws
-pub mod PlaceLaws
+pub mod PlaceOfLines
 pub mod ReadLaws
 pub mod ReadingLaws
 pub mod SampleLaws

@@ -1,14 +1,15 @@
 -- The first line, byte by byte.
-use Rattle.std.proofs.Common.{◌≡◌, ◌⊎◌, inl, inr, ℕ, zero, suc, ◌+◌, ◌-◌, ◌<◌, ◌≤◌, Bool, true, false, nat_eq, List, [], ◌∷◌, ◌++◌, length, take, drop, get_or, Option, Some, None, refl, sym, ap, ◌∙◌, subst, arith, length-append, append-nil}
+use Rattle.std.proofs.Common.{◌≡◌, ◌⊎◌, inl, inr, ℕ, zero, suc, ◌+◌, ◌-◌, ◌<◌, ◌≤◌, Bool, true, false, nat_eq, List, [], ◌∷◌, ◌++◌, length, take}
+use Rattle.std.proofs.Common.{drop, get_or, Option, Some, None, refl, sym, ap, ◌∙◌, subst, arith, length-append, append-nil}
 use Rattle.std.specs.Prelude.{◌||◌, ◌&&◌, IfSome}
 use Rattle.std.specs.List.{AllPass, starts_with, list_any}
 use Rattle.std.specs.Io.KnownBytes.{Consumes}
-use Rattle.std.proofs.lemmas.Bool.{false≢true, cases_lt}
+use Rattle.std.proofs.lemmas.Bool.{false≢true, cases_lt, or_cases}
 use Rattle.std.proofs.lemmas.Bool.Decides.{nat_tests}
 use Rattle.std.proofs.lemmas.List.{append_assoc, get_or_append_left, get_or-append_right, take-append-drop, take_all, drop_all}
 use lib.Pointwise.{pointwise}
-use Rattle.iso_model.specs.HeaderLines.{is_line, line_bytes, is_filled, is_first_line, begins_right}
-use Rattle.nrrd_raw.specs.Fronts.{HasFront, FitsFirst, least_first, greatest_first, TakesFitting}
+use Rattle.iso_formats.specs.HeaderLines.{is_line, line_bytes, is_filled, is_first_line, begins_right}
+use Rattle.nrrd_raw.specs.HeaderFronts.{HasFront, FitsFirst, least_first, greatest_first, TakesFitting}
 
 -- ---- what bytes that begin right are
 
@@ -46,10 +47,6 @@ record Begun (bytes : List ℕ) : Type 0 where
   rest : List ℕ
   is : (bytes ≡ digit_line digit ++ 10 ∷ rest) ⊎ (bytes ≡ digit_line digit ++ 13 ∷ 10 ∷ rest)
 
-or_cases : (a b : Bool) → a || b ≡ true → (a ≡ true) ⊎ (b ≡ true)
-or_cases true b e = inl refl
-or_cases false b e = inr e
-
 begun_at : (bytes : List ℕ) (d : ℕ) → 49 ≤ d → d ≤ 53
     → list_any (λ r. starts_with nat_eq bytes (line_bytes (record { text = digit_line d; has_return = r }))) (true ∷ false ∷ []) ≡ true → Begun bytes
 begun_at bytes d l h e = elim (or_cases (starts_with nat_eq bytes (digit_line d ++ 13 ∷ 10 ∷ [])) _ e) [
@@ -61,15 +58,19 @@ begun_at bytes d l h e = elim (or_cases (starts_with nat_eq bytes (digit_line d 
 ]
 
 begun : (bytes : List ℕ) → begins_right bytes ≡ true → Begun bytes
-begun bytes e = elim (or_cases (list_any (λ r. starts_with nat_eq bytes (line_bytes (record { text = digit_line 49; has_return = r }))) (true ∷ false ∷ [])) _ e) [
+begun bytes e = elim (or_cases (list_any (λ r. starts_with nat_eq bytes (line_bytes (record { text = digit_line 49; has_return = r })))
+    (true ∷ false ∷ [])) _ e) [
   | inl a ↦ begun_at bytes 49 (omega arith) (omega arith) a
   | inr a ↦ elim (or_cases (list_any (λ r. starts_with nat_eq bytes (line_bytes (record { text = digit_line 50; has_return = r }))) (true ∷ false ∷ [])) _ a) [
     | inl b ↦ begun_at bytes 50 (omega arith) (omega arith) b
-    | inr b ↦ elim (or_cases (list_any (λ r. starts_with nat_eq bytes (line_bytes (record { text = digit_line 51; has_return = r }))) (true ∷ false ∷ [])) _ b) [
+    | inr b ↦ elim (or_cases (list_any (λ r. starts_with nat_eq bytes (line_bytes (record { text = digit_line 51; has_return = r })))
+        (true ∷ false ∷ [])) _ b) [
       | inl c ↦ begun_at bytes 51 (omega arith) (omega arith) c
-      | inr c ↦ elim (or_cases (list_any (λ r. starts_with nat_eq bytes (line_bytes (record { text = digit_line 52; has_return = r }))) (true ∷ false ∷ [])) _ c) [
+      | inr c ↦ elim (or_cases (list_any (λ r. starts_with nat_eq bytes (line_bytes (record { text = digit_line 52; has_return = r })))
+          (true ∷ false ∷ [])) _ c) [
         | inl d ↦ begun_at bytes 52 (omega arith) (omega arith) d
-        | inr d ↦ elim (or_cases (list_any (λ r. starts_with nat_eq bytes (line_bytes (record { text = digit_line 53; has_return = r }))) (true ∷ false ∷ [])) _ d) [
+        | inr d ↦ elim (or_cases (list_any (λ r. starts_with nat_eq bytes (line_bytes (record { text = digit_line 53; has_return = r })))
+            (true ∷ false ∷ [])) _ d) [
           | inl f ↦ begun_at bytes 53 (omega arith) (omega arith) f
           | inr f ↦ absurd (false≢true f)
         ]
@@ -82,7 +83,8 @@ not_begun : (bytes : List ℕ) (b : Bool) → begins_right bytes ≡ b → (Begu
 not_begun bytes true e h = absurd (h (begun bytes e))
 not_begun bytes false e h = refl
 
-digit_fits : (d : ℕ) (more : List ℕ) → 49 ≤ d → d ≤ 53 → (k : ℕ) → k < 8 → (get_or least_first k 0 ≤ get_or (digit_line d ++ more) k 0) × (get_or (digit_line d ++ more) k 0 ≤ get_or greatest_first k 0)
+digit_fits : (d : ℕ) (more : List ℕ) → 49 ≤ d → d ≤ 53 → (k : ℕ) → k < 8
+    → (get_or least_first k 0 ≤ get_or (digit_line d ++ more) k 0) × (get_or (digit_line d ++ more) k 0 ≤ get_or greatest_first k 0)
 digit_fits d more l h zero m = (omega arith, omega arith)
 digit_fits d more l h (suc zero) m = (omega arith, omega arith)
 digit_fits d more l h (suc (suc zero)) m = (omega arith, omega arith)
@@ -95,8 +97,12 @@ digit_fits d more l h (suc (suc (suc (suc (suc (suc (suc (suc k)))))))) m = absu
 
 begun_fits : (bytes : List ℕ) (b : Begun bytes) (k : ℕ) → k < 8 → (get_or least_first k 0 ≤ get_or bytes k 0) × (get_or bytes k 0 ≤ get_or greatest_first k 0)
 begun_fits bytes b k m = elim b.is [
-  | inl e ↦ subst (λ (bs : List ℕ). (get_or least_first k 0 ≤ get_or bs k 0) × (get_or bs k 0 ≤ get_or greatest_first k 0)) (sym e) (digit_fits b.digit (10 ∷ b.rest) b.low b.high k m)
-  | inr e ↦ subst (λ (bs : List ℕ). (get_or least_first k 0 ≤ get_or bs k 0) × (get_or bs k 0 ≤ get_or greatest_first k 0)) (sym e) (digit_fits b.digit (13 ∷ 10 ∷ b.rest) b.low b.high k m)
+  | inl e ↦
+      subst (λ (bs : List ℕ). (get_or least_first k 0 ≤ get_or bs k 0) × (get_or bs k 0 ≤ get_or greatest_first k 0)) (sym e)
+          (digit_fits b.digit (10 ∷ b.rest) b.low b.high k m)
+  | inr e ↦
+      subst (λ (bs : List ℕ). (get_or least_first k 0 ≤ get_or bs k 0) × (get_or bs k 0 ≤ get_or greatest_first k 0)) (sym e)
+          (digit_fits b.digit (13 ∷ 10 ∷ b.rest) b.low b.high k m)
 ]
 
 -- ---- bytes that do not begin right
@@ -107,7 +113,8 @@ byte_at front ys n k e s =
     get_or-append_right front ys (length front) k 0 refl (omega (arith, e, s)) ∙ ap (λ i. get_or ys i 0) z
 
 pub wrong-place : (old now : Option (List ℕ)) (front : List ℕ) (place : ℕ) → FitsFirst front place → place < 8 → Consumes old now front
-    → IfSome now (λ ys. (get_or ys 0 0 < get_or least_first place 0) ⊎ (get_or greatest_first place 0 < get_or ys 0 0)) → IfSome old (λ bytes. begins_right bytes ≡ false)
+    → IfSome now (λ ys. (get_or ys 0 0 < get_or least_first place 0) ⊎ (get_or greatest_first place 0 < get_or ys 0 0))
+        → IfSome old (λ bytes. begins_right bytes ≡ false)
 wrong-place None now front place f l c w = tt
 wrong-place (Some bytes) None front place f l c w = absurd c
 wrong-place (Some bytes) (Some ys) front place f l c w = not_begun bytes (begins_right bytes) refl (λ b.
@@ -253,16 +260,15 @@ front-return front f =
 
 -- ---- one byte more
 
-pub FitsFirst-none : (front : List ℕ) → front ≡ [] → FitsFirst front 0
-FitsFirst-none front e = record { len = ap length e; fits = λ k l. absurd (omega arith) }
-
-pub FitsFirst-more : (front after : List ℕ) (place : ℕ) (old new : Option (List ℕ)) → FitsFirst front place → TakesFitting old new (get_or least_first place 0) (get_or greatest_first place 0) front after
+pub FitsFirst-more : (front after : List ℕ) (place : ℕ) (old new : Option (List ℕ)) → FitsFirst front place
+    → TakesFitting old new (get_or least_first place 0) (get_or greatest_first place 0) front after
     → FitsFirst after (place + 1)
 FitsFirst-more front after place old new f t = record {
   len = omega (arith, ap length t.pushed, length-append front (t.byte ∷ []), f.len);
   fits = λ k l. elim (cases_lt k place) [
     | inl below ↦
-        (let at : get_or after k 0 ≡ get_or front k 0 = ap (λ (xs : List ℕ). get_or xs k 0) t.pushed ∙ get_or_append_left front (t.byte ∷ []) 0 k (omega (arith, f.len)) in
+        (let at : get_or after k 0 ≡ get_or front k 0 = ap (λ (xs : List ℕ). get_or xs k 0) t.pushed
+            ∙ get_or_append_left front (t.byte ∷ []) 0 k (omega (arith, f.len)) in
         (omega (arith, at, (f.fits k below).0), omega (arith, at, (f.fits k below).1)))
     | inr here ↦
         (let same : k ≡ place = omega arith in

@@ -1,12 +1,13 @@
 -- Digits, one after another.
-use Rattle.std.proofs.Common.{◌≡◌, ℕ, zero, suc, ◌+◌, ◌*◌, ◌<◌, Bool, true, false, not, List, [], ◌∷◌, ◌++◌, length, take, get_or, Some, None, min, refl, ap, ◌∙◌, arith}
+use Rattle.std.proofs.Common.{◌≡◌, ℕ, zero, suc, ◌+◌, ◌*◌, ◌<◌, Bool, true, false, not, List, [], ◌∷◌, ◌++◌, length, take, get_or, Some, None, min}
+use Rattle.std.proofs.Common.{refl, ap, ◌∙◌, arith}
 use Rattle.std.specs.Prelude.{◌&&◌, if◌then◌else◌}
 use Rattle.std.specs.Char.{is_ascii_digit, digit_value}
 use Rattle.std.specs.Str.{all_ascii_digits}
 use Rattle.std.specs.Str.Parse.{digits_value}
 use Rattle.std.proofs.lemmas.List.{take_more}
 use Rattle.std.proofs.lemmas.Int.Digits.{digits_value_more}
-use Rattle.iso_model.specs.HeaderLines.{is_numeral_within, numeral_value, is_empty}
+use Rattle.iso_formats.specs.HeaderLines.{is_numeral_within, numeral_value, is_empty}
 
 and_false : (a : Bool) → a && false ≡ false
 and_false true = refl
@@ -45,7 +46,8 @@ none_cases : (e a b : Bool) (v : ℕ) → None ≡ (if not e && false && a && b 
 none_cases true a b v = refl
 none_cases false a b v = refl
 
-pub numeral-none : (low high : ℕ) (text : List ℕ) → all_ascii_digits text ≡ false → None ≡ (if is_numeral_within low high text then Some (numeral_value text) else None)
+pub numeral-none : (low high : ℕ) (text : List ℕ) → all_ascii_digits text ≡ false
+    → None ≡ (if is_numeral_within low high text then Some (numeral_value text) else None)
 numeral-none low high text e = rw e (none_cases (is_empty text) _ _ (numeral_value text))
 
 -- a value that is cut off at its limit stays so with each digit more

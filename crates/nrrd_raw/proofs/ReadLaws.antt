@@ -1,25 +1,22 @@
 -- Samples that are read in pieces.
-use Rattle.std.proofs.Common.{◌≡◌, ℕ, ◌+◌, ◌*◌, ◌<◌, ◌≤◌, ◌++◌, [], ◌∷◌, ℤ, true, false, List, length, take, Option, Some, None, sym, ap, subst, append-nil, ◌∙◌, arith, length-append}
+use Rattle.std.proofs.Common.{◌≡◌, ℕ, ◌+◌, ◌*◌, ◌<◌, ◌≤◌, ◌++◌, [], ◌∷◌, ℤ, true, false, List, length, take, Option, Some, None, sym, ap, subst}
+use Rattle.std.proofs.Common.{append-nil, ◌∙◌, arith, length-append}
 use Rattle.std.proofs.Math.Nat.{mul-le-mul_right}
 use Rattle.std.proofs.lemmas.List.{take_all, length-take-le}
 use Rattle.std.specs.Io.KnownBytes.{Consumes, IsAtEnd}
 use Rattle.std.proofs.KnownBytes.{Consumes-nil, Consumes-trans}
-use Rattle.iso_model.specs.GridFile.{Header, samples_of}
-use Rattle.nrrd_raw.specs.Causes.{ReadsSamples, ReadsMore, IsCutOff, IsDataFault}
+use Rattle.iso_formats.specs.GridFile.{Header, samples_of}
+use Rattle.nrrd_raw.specs.FaultCauses.{ReadsSamples, ReadsMore, IsCutOff, IsDataFault}
 use Rattle.nrrd_raw.specs.Taken.{FillsUp}
 use Rattle.nrrd_raw.specs.declared.faults.GridFault.{GridFault}
 use Rattle.nrrd_raw.specs.declared.faults.GridFault.TheVariants.{DataShort, Trailing, Shelf, Memory}
-use Rattle.nrrd_raw.specs.Faults.{is_piece_fault, is_data_fault}
+use Rattle.nrrd_raw.specs.GridFaultWords.{is_piece_fault, is_data_fault}
 use Rattle.iso_model.specs.Values.{product}
-use Rattle.iso_model.specs.GridFile.{SpellsSamples, sample_limit}
-use Rattle.iso_model.specs.GridFaults.{HasSampleFault, too_many, cut_off, overlong, data_too_short, sizes_too_large}
+use Rattle.iso_formats.specs.GridFile.{SpellsSamples, sample_limit}
+use Rattle.iso_formats.specs.GridFaults.{HasSampleFault, too_many, cut_off, overlong, data_too_short, sizes_too_large}
 use Rattle.std.specs.Prelude.{IfSome, IsTrue}
-use Rattle.nrrd_raw.specs.Causes.{cause_of}
+use Rattle.nrrd_raw.specs.FaultCauses.{cause_of}
 use Rattle.nrrd_raw.proofs.SampleLaws.{samples_of-append}
-
--- nothing was read at the start
-pub ReadsSamples-none : (h : Header) (a : Option (List ℕ)) (items : List ℤ) → items ≡ [] → ReadsSamples h a a 0 items
-ReadsSamples-none h a items e = record { came = []; whole = omega arith; taken = Consumes-nil a; spelled = e }
 
 -- a piece more was read
 pub ReadsSamples-more : (h : Header) (a b c : Option (List ℕ)) (n m k : ℕ) (before after : List ℤ) → k ≡ n + m
@@ -28,27 +25,10 @@ ReadsSamples-more h a b c n m k before after e p q = record {
   came = p.came ++ q.came;
   whole = rw e (omega (arith, length-append p.came q.came, p.whole, q.whole));
   taken = Consumes-trans a b c p.came q.came p.taken q.taken;
-  spelled = q.spelled ∙ ap (λ items. items ++ samples_of h m q.came) p.spelled ∙ sym (samples_of-append h n m p.came q.came p.whole) ∙ ap (λ i. samples_of h i (p.came ++ q.came)) (sym e);
+  spelled =
+      q.spelled ∙ ap (λ items. items ++ samples_of h m q.came) p.spelled ∙ sym (samples_of-append h n m p.came q.came p.whole)
+          ∙ ap (λ i. samples_of h i (p.came ++ q.came)) (sym e);
 }
-
--- a full buffer holds the bytes that came
-pub ReadsMore-filled : (h : Header) (a b : Option (List ℕ)) (more count : ℕ) (buf : List ℕ) (before after : List ℤ) → FillsUp a b buf count → length buf ≤ count
-    → length buf ≡ more * h.width → after ≡ before ++ samples_of h more buf → ReadsMore h a b more before after
-ReadsMore-filled h a b more count buf before after f full whole e =
-    let all = take_all count buf full in
-    record {
-      came = take count buf;
-      whole = ap length all ∙ whole;
-      taken = f.came;
-      spelled = e ∙ ap (λ bytes. before ++ samples_of h more bytes) (sym all);
-    }
-
--- the file ended before the buffer was full
-pub IsCutOff-short : (h : Header) (a b : Option (List ℕ)) (before more count came : ℕ) (buf : List ℕ) → FillsUp a b buf came → came < length buf
-    → length buf ≡ more * h.width → count ≡ before * h.width + came → IsCutOff h a b before more (DataShort count)
-IsCutOff-short h a b before more count came buf f short whole e =
-    let len = length-take-le came buf f.within in
-    (take came buf, omega (arith, len), omega (arith, e, len), f.came, f.ended short)
 
 -- behind the samples that were read before, so many bytes came in all
 pub IsDataFault-short : (h : Header) (a b c : Option (List ℕ)) (n more wanted count : ℕ) (items : List ℤ) → ReadsSamples h a b n items
@@ -61,7 +41,11 @@ IsDataFault-short h a b c n more wanted count items p l q =
 pub IsDataFault-trailing : (h : Header) (a b c : Option (List ℕ)) (n wanted byte : ℕ) (items : List ℤ) → ReadsSamples h a b n items → n ≡ wanted
     → Consumes b c (byte ∷ []) → IsDataFault (wanted * h.width) a c Trailing
 IsDataFault-trailing h a b c n wanted byte items p e q =
-    (p.came ++ byte ∷ [], length-append p.came (byte ∷ []) ∙ ap (λ len. len + 1) (p.whole ∙ ap (λ i. i * h.width) e), Consumes-trans a b c p.came (byte ∷ []) p.taken q)
+    (
+      p.came ++ byte ∷ [],
+      length-append p.came (byte ∷ []) ∙ ap (λ len. len + 1) (p.whole ∙ ap (λ i. i * h.width) e),
+      Consumes-trans a b c p.came (byte ∷ []) p.taken q
+    )
 
 pub IsDataFault-cut : (h : Header) (a b c : Option (List ℕ)) (n more wanted : ℕ) (items : List ℤ) (fault : GridFault) → ReadsSamples h a b n items
     → n + more ≤ wanted → IsTrue (is_piece_fault fault) → IsCutOff h b c n more fault → IsDataFault (wanted * h.width) a c fault
@@ -77,18 +61,6 @@ IsDataFault-cut h a b c n more wanted items fault p l t q = tt
 -- bytes of which all were taken
 all_taken : (bytes ys came : List ℕ) → bytes ≡ came ++ ys → ys ≡ [] → bytes ≡ came
 all_taken bytes ys came e n = e ∙ ap (λ zs. came ++ zs) n ∙ append-nil came
-
-pub SpellsSamples-told : (h : Header) (old new : Option (List ℕ)) (samples : List ℤ) → ReadsSamples h old new (product h.sizes) samples → IsAtEnd new
-    → product h.sizes ≤ sample_limit → IfSome old (λ bytes. SpellsSamples h bytes (record { sizes = h.sizes; samples = samples }))
-SpellsSamples-told h None new samples r end few = tt
-SpellsSamples-told h (Some bytes) None samples r end few = absurd r.taken
-SpellsSamples-told h (Some bytes) (Some ys) samples r end few =
-    let same : bytes ≡ r.came = all_taken bytes ys r.came r.taken end in
-    record {
-      few = few;
-      whole = ap length same ∙ r.whole;
-      grid = ap (λ (items : List ℤ). record { sizes = h.sizes; samples = items }) (r.spelled ∙ ap (λ bs. samples_of h (product h.sizes) bs) (sym same));
-    }
 
 pub HasSampleFault-too_large : (h : Header) (old : Option (List ℕ)) (count : ℕ) → sample_limit < product h.sizes → count ≡ product h.sizes
     → IfSome old (λ bytes. HasSampleFault h bytes (sizes_too_large count))

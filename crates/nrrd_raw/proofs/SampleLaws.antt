@@ -1,5 +1,6 @@
 -- What the bytes of a sample spell, by width, sign and order.
-use Rattle.std.proofs.Common.{◌≡◌, ◌⊎◌, inl, inr, ℕ, suc, ◌+◌, ◌-◌, ◌*◌, ◌^◌, ◌<◌, ◌≤◌, Bool, true, false, ltb, leb, ℤ, pos, negsuc, List, [], ◌∷◌, ◌++◌, length, take, drop, refl, sym, ap, ◌∙◌, arith, length-append}
+use Rattle.std.proofs.Common.{◌≡◌, ◌⊎◌, inl, inr, ℕ, suc, ◌+◌, ◌-◌, ◌*◌, ◌^◌, ◌<◌, ◌≤◌, Bool, true, false, ltb, leb, ℤ, pos, negsuc, List, [], ◌∷◌}
+use Rattle.std.proofs.Common.{◌++◌, length, take, drop, refl, sym, ap, ◌∙◌, arith, length-append}
 use Rattle.std.specs.Prelude.{◌-ℤ◌, slice_index, if◌then◌else◌, nat_le}
 use Rattle.std.specs.Int.{w8, w16, w32, cast_signed}
 use Rattle.std.proofs.Math.Nat.{mul-le-mul_right}
@@ -12,7 +13,7 @@ use Rattle.std.proofs.lemmas.Int.{ints}
 use Rattle.byteorder.specs.Endian.{big_number, little_number}
 use Rattle.byteorder.specs.Numbers.{big_from-lt, little_from-lt}
 use Rattle.nrrd_raw.specs.Forms.{HasValues}
-use Rattle.iso_model.specs.GridFile.{Header, number_of, sample_value, group_at, samples_of}
+use Rattle.iso_formats.specs.GridFile.{Header, number_of, sample_value, group_at, samples_of}
 
 -- ---- numbers
 
@@ -95,11 +96,13 @@ room k count width len l e =
     omega (arith, more)
 
 pub samples_spelled : (h : Header) (value : List ℕ → ℤ) (width count : ℕ) (piece : List ℕ) (samples : List ℤ) → h.width ≡ width → length samples ≡ count
-    → length piece ≡ count * width → AreBytes piece → Spells h value width → HasValues value width piece samples (length samples) → samples ≡ samples_of h count piece
+    → length piece ≡ count * width → AreBytes piece → Spells h value width → HasValues value width piece samples (length samples)
+        → samples ≡ samples_of h count piece
 samples_spelled h value width count piece samples w n len bytes spells values =
     same_lists samples (samples_of h count piece) (n ∙ sym (length-map-range_with_len (λ i. sample_value h (group_at h.width piece i)) 0 count))
     (λ k d l. values k d l
-    ∙ spells (drop (k * width) piece) (omega (arith, room k count width (length piece) (omega arith) len, length-drop (k * width) piece)) (bytes_behind (k * width) piece bytes)
+    ∙ spells (drop (k * width) piece) (omega (arith, room k count width (length piece) (omega arith) len, length-drop (k * width) piece))
+        (bytes_behind (k * width) piece bytes)
     ∙ ap (λ i. sample_value h (take i (drop (k * i) piece))) (sym w)
     ∙ sym (get_or-map-range_with_len (λ i. sample_value h (group_at h.width piece i)) 0 count k k d (omega arith) (omega arith)))
 
@@ -155,7 +158,8 @@ group_behind width n k xs ys e =
     ap (λ i. take width (drop i (xs ++ ys))) place ∙ ap (take width) (drop-append-add xs ys (k * width))
 
 -- the samples of more bytes are those of the bytes before, and then those of the rest
-pub samples_of-append : (h : Header) (n m : ℕ) (xs ys : List ℕ) → length xs ≡ n * h.width → samples_of h (n + m) (xs ++ ys) ≡ samples_of h n xs ++ samples_of h m ys
+pub samples_of-append : (h : Header) (n m : ℕ) (xs ys : List ℕ) → length xs ≡ n * h.width
+    → samples_of h (n + m) (xs ++ ys) ≡ samples_of h n xs ++ samples_of h m ys
 samples_of-append h n m xs ys e =
     let value : List ℕ → ℕ → ℤ = λ zs i. sample_value h (group_at h.width zs i) in
     let first = length-map-range_with_len (value xs) 0 n in

@@ -1,23 +1,26 @@
 -- Words between blanks, one after another, and the sizes that they write.
-use Rattle.std.proofs.Common.{◌≡◌, ℕ, zero, suc, ◌+◌, ◌-◌, ◌<◌, ◌≤◌, Bool, true, false, List, [], ◌∷◌, ◌++◌, map, length, take, drop, get_or, set, replicate, Option, Some, None, leb, refl, sym, ap, ◌∙◌, subst, arith}
+use Rattle.std.proofs.Common.{◌≡◌, ℕ, zero, suc, ◌+◌, ◌-◌, ◌<◌, ◌≤◌, Bool, true, false, List, [], ◌∷◌, ◌++◌, map, length, take, drop, get_or, set}
+use Rattle.std.proofs.Common.{replicate, Option, Some, None, leb, refl, sym, ap, ◌∙◌, subst, arith}
 use Rattle.std.specs.Prelude.{◌&&◌, ◌==◌, filter, nat_le, if◌then◌else◌}
 use Rattle.std.specs.List.{slice_split, position_or_len, list_all}
 use Rattle.std.proofs.lemmas.Bool.Decides.{nat_tests}
 use Rattle.std.proofs.lemmas.Bool.{cases_lt}
 use Rattle.std.proofs.Common.{inl, inr}
-use Rattle.std.proofs.lemmas.List.{drop_more, drop-drop, drop_all, take_all, take_more, take_more_set, length-drop, get_or-drop, map-append, take-append-drop, length-take, length-set, drop-set-lt, drop-replicate}
+use Rattle.std.proofs.lemmas.List.{drop_more, drop-drop, drop_all, take_all, take_more, take_more_set, length-drop, get_or-drop, map-append}
+use Rattle.std.proofs.lemmas.List.{take-append-drop, length-take, length-set, drop-set-lt, drop-replicate}
 use Rattle.std.proofs.lemmas.List.Sums.{position_or_len_is}
 use Rattle.std.proofs.lemmas.List.Splits.{slice_split-cons_yes, slice_split_first, slice_split_none}
 use Rattle.std.proofs.lemmas.List.Elements.{All-from_get_or}
 use Rattle.nrrd_raw.specs.Shapes.{HasShape}
-use Rattle.iso_model.specs.HeaderLines.{is_blank, is_filled, words_of, is_numeral_within, numeral_value}
+use Rattle.iso_formats.specs.HeaderLines.{is_blank, is_filled, words_of, is_numeral_within, numeral_value}
 
 -- ---- words
 
 words_blank : (x : ℕ) (xs : List ℕ) → is_blank x ≡ true → words_of (x ∷ xs) ≡ words_of xs
 words_blank x xs e = ap (filter is_filled) (slice_split-cons_yes is_blank x xs e)
 
-skip_more : (xs : List ℕ) (a n : ℕ) → a + n ≤ length xs → ((k : ℕ) → a ≤ k → k < a + n → is_blank (get_or xs k 0) ≡ true) → words_of (drop a xs) ≡ words_of (drop (a + n) xs)
+skip_more : (xs : List ℕ) (a n : ℕ) → a + n ≤ length xs → ((k : ℕ) → a ≤ k → k < a + n → is_blank (get_or xs k 0) ≡ true)
+    → words_of (drop a xs) ≡ words_of (drop (a + n) xs)
 skip_more xs a zero l b = ap (λ i. words_of (drop i xs)) (same a)
   where
     same : (a : ℕ) → a ≡ a + 0
@@ -29,7 +32,8 @@ skip_more xs a (suc n) l b =
     ∙ skip_more xs (a + 1) n (omega arith) (λ k p q. b k (omega arith) (omega arith)) ∙ ap (λ i. words_of (drop i xs)) next
 
 -- blanks are passed over
-pub words_of-skip : (xs : List ℕ) (a b : ℕ) → a ≤ b → b ≤ length xs → ((k : ℕ) → a ≤ k → k < b → is_blank (get_or xs k 0) ≡ true) → words_of (drop a xs) ≡ words_of (drop b xs)
+pub words_of-skip : (xs : List ℕ) (a b : ℕ) → a ≤ b → b ≤ length xs → ((k : ℕ) → a ≤ k → k < b → is_blank (get_or xs k 0) ≡ true)
+    → words_of (drop a xs) ≡ words_of (drop b xs)
 words_of-skip xs a b l m h =
     let e : a + (b - a) ≡ b = omega arith in
     skip_more xs a (b - a) (omega arith) (λ k p q. h k p (omega arith)) ∙ ap (λ i. words_of (drop i xs)) e
@@ -147,8 +151,10 @@ pub sizes_from-wrong : (ws rest next : List (List ℕ)) (w : List ℕ) (count : 
     → None ≡ (if is_size w then Some (numeral_value w) else None) → None ≡ sizes_from ws
 sizes_from-wrong ws rest next w count places r e s =
     let n = next_word ws next w count (r.left ∙ e) in
-    let wrong : list_all is_size (take (count + 1) ws) ≡ false = ap (list_all is_size) n.taken ∙ all_push (take count ws) w false r.fine (size_not (is_size w) (numeral_value w) s) in
-    let all : list_all is_size ws ≡ false = ap (list_all is_size) (sym (take-append-drop (count + 1) ws)) ∙ all_front (take (count + 1) ws) (drop (count + 1) ws) wrong in
+    let wrong : list_all is_size (take (count + 1) ws) ≡ false =
+        ap (list_all is_size) n.taken ∙ all_push (take count ws) w false r.fine (size_not (is_size w) (numeral_value w) s) in
+    let all : list_all is_size ws ≡ false =
+        ap (list_all is_size) (sym (take-append-drop (count + 1) ws)) ∙ all_front (take (count + 1) ws) (drop (count + 1) ws) wrong in
     rw all (not_all (nat_le 1 (length ws)) (nat_le (length ws) 4) (map numeral_value ws))
 
 too_many : (n : ℕ) (b : Bool) (ns : List ℕ) → 4 < n → None ≡ (if nat_le 1 n && nat_le n 4 && b then Some ns else None)
@@ -172,10 +178,8 @@ all_read ws count places r =
     let len : length ws ≡ count = omega (arith, length-drop count ws, ap length r.left, r.few) in
     (len, take_all count ws (omega (arith, len)))
 
-pub sizes_from-none : (ws : List (List ℕ)) (count : ℕ) (places : List ℕ) → ReadsWords ws [] count places → count ≡ 0 → None ≡ sizes_from ws
-sizes_from-none ws count places r z = rw ((all_read ws count places r).0, z) refl
-
-pub sizes_from-all : (ws : List (List ℕ)) (count : ℕ) (places : List ℕ) → ReadsWords ws [] count places → 1 ≤ count → count ≤ 4 → Some (take count places) ≡ sizes_from ws
+pub sizes_from-all : (ws : List (List ℕ)) (count : ℕ) (places : List ℕ) → ReadsWords ws [] count places → 1 ≤ count → count ≤ 4
+    → Some (take count places) ≡ sizes_from ws
 sizes_from-all ws count places r l m =
     let all = all_read ws count places r in
     let fine : list_all is_size ws ≡ true = ap (list_all is_size) (sym all.1) ∙ r.fine in
@@ -189,7 +193,8 @@ sizes_from-all ws count places r l m =
 
 -- ---- the loop's parts
 
-pub words_of-word : (xs : List ℕ) (a b : ℕ) → a < b → b ≤ length xs → is_blank (get_or xs a 0) ≡ false → ((k : ℕ) → a < k → k < b → is_blank (get_or xs k 0) ≡ false)
+pub words_of-word : (xs : List ℕ) (a b : ℕ) → a < b → b ≤ length xs → is_blank (get_or xs a 0) ≡ false
+    → ((k : ℕ) → a < k → k < b → is_blank (get_or xs k 0) ≡ false)
     → (b < length xs → is_blank (get_or xs b 0) ≡ true) → words_of (drop a xs) ≡ take (b - a) (drop a xs) ∷ words_of (drop b xs)
 words_of-word xs a b l m first none here = words_of-take xs a b l m (λ k p q. elim (cases_lt a k) [
   | inl more ↦ none k more q
@@ -202,5 +207,7 @@ HasShape-set count size places s l =
     record {
       few = omega arith;
       four = length-set places count size ∙ s.four;
-      beyond = drop-set-lt (count + 1) places count size (omega arith) ∙ sym (drop-drop 1 count places) ∙ ap (drop 1) s.beyond ∙ drop-replicate 1 (4 - count) 1 ∙ ap (λ n. replicate n 1) e;
+      beyond =
+          drop-set-lt (count + 1) places count size (omega arith) ∙ sym (drop-drop 1 count places) ∙ ap (drop 1) s.beyond
+              ∙ drop-replicate 1 (4 - count) 1 ∙ ap (λ n. replicate n 1) e;
     }

@@ -1,20 +1,22 @@
 -- What a line more states.
-use Rattle.std.proofs.Common.{◌≡◌, ◌⊎◌, inl, inr, ℕ, ◌+◌, ◌<◌, ◌≤◌, Bool, true, false, not, cond, eqb, List, [], ◌∷◌, ◌++◌, length, drop, Option, Some, None, refl, sym, ap, ◌∙◌, subst, arith, length-append, append-nil}
+use Rattle.std.proofs.Common.{◌≡◌, ◌⊎◌, inl, inr, ℕ, ◌+◌, ◌<◌, ◌≤◌, Bool, true, false, not, cond, eqb, List, [], ◌∷◌, ◌++◌, length, drop, Option}
+use Rattle.std.proofs.Common.{Some, None, refl, sym, ap, ◌∙◌, subst, arith, length-append, append-nil}
 use Rattle.std.specs.Prelude.{◌||◌, codes, is_some, IfSome}
 use Rattle.std.specs.List.{cons_option, filter_map, position_or_len}
 use Rattle.std.specs.Str.{str_to_ascii_lowercase}
-use Rattle.std.proofs.lemmas.Bool.{false≢true}
+use Rattle.std.proofs.lemmas.Bool.{false≢true, or_cases}
 use Rattle.std.proofs.lemmas.Bool.Decides.{nat_tests}
 use Rattle.std.proofs.lemmas.List.{drop-append-le, length-drop}
 use Rattle.std.proofs.lemmas.List.Elements.{filter_map-append}
 use Rattle.std.proofs.lemmas.List.Folds.{position_or_len_push}
 use Rattle.std.proofs.lemmas.Slice.Eq.{bytes_eq-Decides}
-use Rattle.iso_model.specs.declared.Field.{Field}
-use Rattle.iso_model.specs.declared.Field.TheVariants.{SampleType, Dimension, Sizes, Encoding, Endian}
-use Rattle.iso_model.specs.Orders.{same_list}
-use Rattle.iso_model.specs.HeaderLines as lines
-use Rattle.iso_model.specs.HeaderLines.{Content, passed_over, named_field, unreadable, content, values, value_if, field_name, is_among, skip_names, data_file_names, is_zero, is_taken, is_empty, first_some}
-use Rattle.iso_model.specs.GridFaults.{content_fault, line_of}
+use Rattle.iso_formats.specs.declared.Field.{Field}
+use Rattle.iso_formats.specs.declared.Field.TheVariants.{SampleType, Dimension, Sizes, Encoding, Endian}
+use Rattle.lists.specs.Orders.{same_list}
+use Rattle.iso_formats.specs.HeaderLines as lines
+use Rattle.iso_formats.specs.HeaderLines.{Content, passed_over, named_field, unreadable, content, values, value_if, field_name, is_among, skip_names}
+use Rattle.iso_formats.specs.HeaderLines.{data_file_names, is_zero, is_taken, is_empty, first_some}
+use Rattle.iso_formats.specs.GridFaults.{content_fault, line_of}
 use Rattle.nrrd_raw.specs.declared.values.Sample.{Sample}
 use Rattle.nrrd_raw.specs.declared.values.Sizes as counted
 use Rattle.nrrd_raw.specs.Names.{sample_view, sizes_view}
@@ -25,7 +27,8 @@ use Rattle.nrrd_raw.specs.States.{Reads, StatesValues, raw_of, raw_view}
 values_push : (name : List ℕ) (texts : List (List ℕ)) (text : List ℕ) → 1 ≤ length texts
     → values name (texts ++ text ∷ []) ≡ values name texts ++ filter_map (λ t. value_if name (content t)) (text ∷ [])
 values_push name texts text l =
-    ap (filter_map (λ t. value_if name (content t))) (drop-append-le 1 texts (text ∷ []) l) ∙ filter_map-append (λ t. value_if name (content t)) (drop 1 texts) (text ∷ [])
+    ap (filter_map (λ t. value_if name (content t))) (drop-append-le 1 texts (text ∷ []) l)
+        ∙ filter_map-append (λ t. value_if name (content t)) (drop 1 texts) (text ∷ [])
 
 no_value : (name text : List ℕ) → value_if name (content text) ≡ None → filter_map (λ t. value_if name (content t)) (text ∷ []) ≡ []
 no_value name text e = rw e refl
@@ -33,18 +36,21 @@ no_value name text e = rw e refl
 a_value : (name text v : List ℕ) → value_if name (content text) ≡ Some v → filter_map (λ t. value_if name (content t)) (text ∷ []) ≡ v ∷ []
 a_value name text v e = rw e refl
 
-pub values-same : (name : List ℕ) (texts : List (List ℕ)) (text : List ℕ) → 1 ≤ length texts → value_if name (content text) ≡ None → values name (texts ++ text ∷ []) ≡ values name texts
+pub values-same : (name : List ℕ) (texts : List (List ℕ)) (text : List ℕ) → 1 ≤ length texts → value_if name (content text) ≡ None
+    → values name (texts ++ text ∷ []) ≡ values name texts
 values-same name texts text l e = values_push name texts text l ∙ ap (λ vs. values name texts ++ vs) (no_value name text e) ∙ append-nil (values name texts)
 
 pub values-new : (name : List ℕ) (texts : List (List ℕ)) (text v : List ℕ) → 1 ≤ length texts → value_if name (content text) ≡ Some v → values name texts ≡ []
     → values name (texts ++ text ∷ []) ≡ v ∷ []
 values-new name texts text v l e n = values_push name texts text l ∙ ap (λ vs. values name texts ++ vs) (a_value name text v e) ∙ ap (λ vs. vs ++ v ∷ []) n
 
-reads_same : {X : Type 0} (read : List ℕ → Option X) (name : List ℕ) (texts : List (List ℕ)) (text : List ℕ) (o : Option X) → 1 ≤ length texts → value_if name (content text) ≡ None
+reads_same : {X : Type 0} (read : List ℕ → Option X) (name : List ℕ) (texts : List (List ℕ)) (text : List ℕ) (o : Option X) → 1 ≤ length texts
+    → value_if name (content text) ≡ None
     → Reads read (values name texts) o → Reads read (values name (texts ++ text ∷ [])) o
 reads_same {X} read name texts text o l e r = subst (λ (vs : List (List ℕ)). Reads read vs o) (sym (values-same name texts text l e)) r
 
-reads_new : {X : Type 0} (read : List ℕ → Option X) (name : List ℕ) (texts : List (List ℕ)) (text v : List ℕ) (x : X) → 1 ≤ length texts → value_if name (content text) ≡ Some v
+reads_new : {X : Type 0} (read : List ℕ → Option X) (name : List ℕ) (texts : List (List ℕ)) (text v : List ℕ) (x : X) → 1 ≤ length texts
+    → value_if name (content text) ≡ Some v
     → Reads read (values name texts) None → read v ≡ Some x → Reads read (values name (texts ++ text ∷ [])) (Some x)
 reads_new read name texts text v x l e r s = (v, values-new name texts text v l e r, s)
 
@@ -53,7 +59,8 @@ reads_new read name texts text v x l e r s = (v, values-new name texts text v l 
 abbrev states_field : List ℕ → List ℕ → Bool
 states_field name text = is_some (value_if name (content text))
 
-line_same : (name : List ℕ) (texts : List (List ℕ)) (text : List ℕ) (n : ℕ) → 1 ≤ length texts → line_of name texts ≡ n → n ≤ length texts → line_of name (texts ++ text ∷ []) ≡ n
+line_same : (name : List ℕ) (texts : List (List ℕ)) (text : List ℕ) (n : ℕ) → 1 ≤ length texts → line_of name texts ≡ n → n ≤ length texts
+    → line_of name (texts ++ text ∷ []) ≡ n
 line_same name texts text n l e m =
     let len = length-drop 1 texts in
     let other : eqb (position_or_len (states_field name) (drop 1 texts)) (length (drop 1 texts)) ≡ false = differs _ _ (omega (arith, e, m, len, l)) in
@@ -64,7 +71,8 @@ line_same name texts text n l e m =
     differs : (i j : ℕ) → i < j → eqb i j ≡ false
     differs i j l = grind (arith, nat_tests)
 
-before_cases : {V : Type 0} (g : List ℕ → Option V) (x : List ℕ) (xs : List (List ℕ)) (o : Option V) → (filter_map g xs ≡ [] → position_or_len (λ y. is_some (g y)) xs ≡ length xs)
+before_cases : {V : Type 0} (g : List ℕ → Option V) (x : List ℕ) (xs : List (List ℕ)) (o : Option V)
+    → (filter_map g xs ≡ [] → position_or_len (λ y. is_some (g y)) xs ≡ length xs)
     → cons_option o (filter_map g xs) ≡ [] → cond (not (is_some o)) (1 + position_or_len (λ y. is_some (g y)) xs) 0 ≡ length (x ∷ xs)
 before_cases g x xs None later e = omega (arith, later e)
 before_cases {V} g x xs (Some v) later e = absurd (cc)
@@ -110,11 +118,13 @@ states-same s d z r b texts text e h = record {
 -- ---- a line that states a field
 
 -- what a content of this field gives each field
-given : (f : Field) (text v : List ℕ) (k : Field) → content text ≡ named_field (field_name f) v → value_if (field_name k) (content text) ≡ value_if (field_name k) (named_field (field_name f) v)
+given : (f : Field) (text v : List ℕ) (k : Field) → content text ≡ named_field (field_name f) v
+    → value_if (field_name k) (content text) ≡ value_if (field_name k) (named_field (field_name f) v)
 given f text v k e = ap (value_if (field_name k)) e
 
 pub states-type : (s : Sample) (d : Option ℕ) (z : Option (counted.Sizes × ℕ)) (r : Bool) (b : Option Bool) (texts : List (List ℕ)) (text v : List ℕ)
-    → content text ≡ named_field (field_name SampleType) v → lines.sample_of v ≡ Some (sample_view s) → StatesValues None d z r b texts → StatesValues (Some s) d z r b (texts ++ text ∷ [])
+    → content text ≡ named_field (field_name SampleType) v → lines.sample_of v ≡ Some (sample_view s) → StatesValues None d z r b texts
+        → StatesValues (Some s) d z r b (texts ++ text ∷ [])
 states-type s d z r b texts text v e x h = record {
   begun = omega (arith, length-append texts (text ∷ []), h.begun);
   sample_type = reads_new lines.sample_of (field_name SampleType) texts text v _ h.begun (given SampleType text v SampleType e) h.sample_type x;
@@ -126,7 +136,8 @@ states-type s d z r b texts text v e x h = record {
 }
 
 pub states-dimension : (s : Option Sample) (d : ℕ) (z : Option (counted.Sizes × ℕ)) (r : Bool) (b : Option Bool) (texts : List (List ℕ)) (text v : List ℕ)
-    → content text ≡ named_field (field_name Dimension) v → lines.dimension_of v ≡ Some d → StatesValues s None z r b texts → StatesValues s (Some d) z r b (texts ++ text ∷ [])
+    → content text ≡ named_field (field_name Dimension) v → lines.dimension_of v ≡ Some d → StatesValues s None z r b texts
+        → StatesValues s (Some d) z r b (texts ++ text ∷ [])
 states-dimension s d z r b texts text v e x h = record {
   begun = omega (arith, length-append texts (text ∷ []), h.begun);
   sample_type = reads_same lines.sample_of (field_name SampleType) texts text _ h.begun (given Dimension text v SampleType e) h.sample_type;
@@ -145,13 +156,18 @@ states-sizes s d z n r b texts text v e x l h = record {
   sample_type = reads_same lines.sample_of (field_name SampleType) texts text _ h.begun (given Sizes text v SampleType e) h.sample_type;
   axes = reads_same lines.dimension_of (field_name Dimension) texts text _ h.begun (given Sizes text v Dimension e) h.axes;
   counts = reads_new lines.sizes_of (field_name Sizes) texts text v _ h.begun (given Sizes text v Sizes e) h.counts x;
-  counts_line = (line_new (field_name Sizes) texts text v h.begun (given Sizes text v Sizes e) h.counts ∙ sym l, omega (arith, length-append texts (text ∷ []), l));
+  counts_line =
+      (
+        line_new (field_name Sizes) texts text v h.begun (given Sizes text v Sizes e) h.counts ∙ sym l,
+        omega (arith, length-append texts (text ∷ []), l)
+      );
   encoding = reads_same raw_of (field_name Encoding) texts text _ h.begun (given Sizes text v Encoding e) h.encoding;
   order = reads_same lines.big_endian_of (field_name Endian) texts text _ h.begun (given Sizes text v Endian e) h.order;
 }
 
 pub states-encoding : (s : Option Sample) (d : Option ℕ) (z : Option (counted.Sizes × ℕ)) (b : Option Bool) (texts : List (List ℕ)) (text v : List ℕ)
-    → content text ≡ named_field (field_name Encoding) v → lines.is_raw v ≡ true → StatesValues s d z false b texts → StatesValues s d z true b (texts ++ text ∷ [])
+    → content text ≡ named_field (field_name Encoding) v → lines.is_raw v ≡ true → StatesValues s d z false b texts
+        → StatesValues s d z true b (texts ++ text ∷ [])
 states-encoding s d z b texts text v e x h = record {
   begun = omega (arith, length-append texts (text ∷ []), h.begun);
   sample_type = reads_same lines.sample_of (field_name SampleType) texts text _ h.begun (given Encoding text v SampleType e) h.sample_type;
@@ -163,7 +179,8 @@ states-encoding s d z b texts text v e x h = record {
 }
 
 pub states-endian : (s : Option Sample) (d : Option ℕ) (z : Option (counted.Sizes × ℕ)) (r : Bool) (b : Bool) (texts : List (List ℕ)) (text v : List ℕ)
-    → content text ≡ named_field (field_name Endian) v → lines.big_endian_of v ≡ Some b → StatesValues s d z r None texts → StatesValues s d z r (Some b) (texts ++ text ∷ [])
+    → content text ≡ named_field (field_name Endian) v → lines.big_endian_of v ≡ Some b → StatesValues s d z r None texts
+        → StatesValues s d z r (Some b) (texts ++ text ∷ [])
 states-endian s d z r b texts text v e x h = record {
   begun = omega (arith, length-append texts (text ∷ []), h.begun);
   sample_type = reads_same lines.sample_of (field_name SampleType) texts text _ h.begun (given Endian text v SampleType e) h.sample_type;
@@ -180,31 +197,41 @@ none_of : {X : Type 0} (o : Option X) → is_some o ≡ false → o ≡ None
 none_of None e = refl
 none_of (Some x) e = absurd (false≢true (sym e))
 
-pub adds-type : (o : Option Sample) (s : Sample) (d : Option ℕ) (z : Option (counted.Sizes × ℕ)) (r : Bool) (b : Option Bool) (texts : List (List ℕ)) (text v : List ℕ) (n : ℕ)
+pub adds-type :
+    (o : Option Sample) (s : Sample) (d : Option ℕ) (z : Option (counted.Sizes × ℕ)) (r : Bool) (b : Option Bool) (texts : List (List ℕ))
+        (text v : List ℕ) (n : ℕ)
     → is_some o ≡ false → content text ≡ named_field (field_name SampleType) v → Some (sample_view s) ≡ lines.sample_of v → StatesValues o d z r b texts
     → StatesValues (Some s) d z r b (texts ++ text ∷ []) × (content_fault texts n (named_field (field_name SampleType) v) ≡ None)
 adds-type (Some p) s d z r b texts text v n o e x h = absurd (false≢true (sym o))
 adds-type None s d z r b texts text v n o e x h = (states-type s d z r b texts text v e (sym x) h, rw (h.sample_type, ← x) refl)
 
-pub adds-dimension : (s : Option Sample) (o : Option ℕ) (d : ℕ) (z : Option (counted.Sizes × ℕ)) (r : Bool) (b : Option Bool) (texts : List (List ℕ)) (text v : List ℕ) (n : ℕ)
+pub adds-dimension :
+    (s : Option Sample) (o : Option ℕ) (d : ℕ) (z : Option (counted.Sizes × ℕ)) (r : Bool) (b : Option Bool) (texts : List (List ℕ)) (text v : List ℕ)
+        (n : ℕ)
     → is_some o ≡ false → content text ≡ named_field (field_name Dimension) v → Some d ≡ lines.dimension_of v → StatesValues s o z r b texts
     → StatesValues s (Some d) z r b (texts ++ text ∷ []) × (content_fault texts n (named_field (field_name Dimension) v) ≡ None)
 adds-dimension s (Some p) d z r b texts text v n o e x h = absurd (false≢true (sym o))
 adds-dimension s None d z r b texts text v n o e x h = (states-dimension s d z r b texts text v e (sym x) h, rw (h.axes, ← x) refl)
 
-pub adds-sizes : (s : Option Sample) (d : Option ℕ) (o : Option (counted.Sizes × ℕ)) (z : counted.Sizes) (r : Bool) (b : Option Bool) (texts : List (List ℕ)) (text v : List ℕ) (n : ℕ)
-    → is_some o ≡ false → content text ≡ named_field (field_name Sizes) v → Some (sizes_view z) ≡ lines.sizes_of v → n ≡ length texts + 1 → StatesValues s d o r b texts
+pub adds-sizes :
+    (s : Option Sample) (d : Option ℕ) (o : Option (counted.Sizes × ℕ)) (z : counted.Sizes) (r : Bool) (b : Option Bool) (texts : List (List ℕ))
+        (text v : List ℕ) (n : ℕ)
+    → is_some o ≡ false → content text ≡ named_field (field_name Sizes) v → Some (sizes_view z) ≡ lines.sizes_of v → n ≡ length texts + 1
+        → StatesValues s d o r b texts
     → StatesValues s d (Some (z, n)) r b (texts ++ text ∷ []) × (content_fault texts n (named_field (field_name Sizes) v) ≡ None)
 adds-sizes s d (Some p) z r b texts text v n o e x l h = absurd (false≢true (sym o))
 adds-sizes s d None z r b texts text v n o e x l h = (states-sizes s d z n r b texts text v e (sym x) l h, rw (h.counts, ← x) refl)
 
-pub adds-encoding : (s : Option Sample) (d : Option ℕ) (z : Option (counted.Sizes × ℕ)) (o : Bool) (b : Option Bool) (texts : List (List ℕ)) (text v : List ℕ) (n : ℕ)
+pub adds-encoding :
+    (s : Option Sample) (d : Option ℕ) (z : Option (counted.Sizes × ℕ)) (o : Bool) (b : Option Bool) (texts : List (List ℕ)) (text v : List ℕ) (n : ℕ)
     → o ≡ false → content text ≡ named_field (field_name Encoding) v → lines.is_raw v ≡ true → StatesValues s d z o b texts
     → StatesValues s d z true b (texts ++ text ∷ []) × (content_fault texts n (named_field (field_name Encoding) v) ≡ None)
 adds-encoding s d z true b texts text v n o e x h = absurd (false≢true (sym o))
 adds-encoding s d z false b texts text v n o e x h = (states-encoding s d z b texts text v e x h, rw (h.encoding, x) refl)
 
-pub adds-endian : (s : Option Sample) (d : Option ℕ) (z : Option (counted.Sizes × ℕ)) (r : Bool) (o : Option Bool) (b : Bool) (texts : List (List ℕ)) (text v : List ℕ) (n : ℕ)
+pub adds-endian :
+    (s : Option Sample) (d : Option ℕ) (z : Option (counted.Sizes × ℕ)) (r : Bool) (o : Option Bool) (b : Bool) (texts : List (List ℕ))
+        (text v : List ℕ) (n : ℕ)
     → is_some o ≡ false → content text ≡ named_field (field_name Endian) v → Some b ≡ lines.big_endian_of v → StatesValues s d z r o texts
     → StatesValues s d z r (Some b) (texts ++ text ∷ []) × (content_fault texts n (named_field (field_name Endian) v) ≡ None)
 adds-endian s d z r (Some p) b texts text v n o e x h = absurd (false≢true (sym o))
@@ -214,10 +241,6 @@ adds-endian s d z r None b texts text v n o e x h = (states-endian s d z r b tex
 
 no_read : (f : Field) (name v : List ℕ) → same_list name (field_name f) ≡ false → value_if (field_name f) (named_field name v) ≡ None
 no_read f name v e = rw e refl
-
-or_cases : (a b : Bool) → a || b ≡ true → (a ≡ true) ⊎ (b ≡ true)
-or_cases true b e = inl refl
-or_cases false b e = inr e
 
 abbrev NotRead : List ℕ → Type 0
 NotRead name = (f : Field) → same_list name (field_name f) ≡ false
@@ -268,7 +291,9 @@ not_read-skip name low e = elim (or_cases (same_list (str_to_ascii_lowercase nam
   ]
 ]
 
-pub adds-skip : (s : Option Sample) (d : Option ℕ) (z : Option (counted.Sizes × ℕ)) (r : Bool) (b : Option Bool) (texts : List (List ℕ)) (text name v : List ℕ) (n : ℕ)
+pub adds-skip :
+    (s : Option Sample) (d : Option ℕ) (z : Option (counted.Sizes × ℕ)) (r : Bool) (b : Option Bool) (texts : List (List ℕ)) (text name v : List ℕ)
+        (n : ℕ)
     → str_to_ascii_lowercase name ≡ name → is_among skip_names name ≡ true → is_zero v ≡ true → content text ≡ named_field name v → StatesValues s d z r b texts
     → StatesValues s d z r b (texts ++ text ∷ []) × (content_fault texts n (named_field name v) ≡ None)
 adds-skip s d z r b texts text name v n low a zero_value e h = (
@@ -276,7 +301,9 @@ adds-skip s d z r b texts text name v n low a zero_value e h = (
   rw (a, zero_value) refl,
 )
 
-pub adds-other : (s : Option Sample) (d : Option ℕ) (z : Option (counted.Sizes × ℕ)) (r : Bool) (b : Option Bool) (texts : List (List ℕ)) (text name v : List ℕ) (n : ℕ)
+pub adds-other :
+    (s : Option Sample) (d : Option ℕ) (z : Option (counted.Sizes × ℕ)) (r : Bool) (b : Option Bool) (texts : List (List ℕ)) (text name v : List ℕ)
+        (n : ℕ)
     → is_among skip_names name ≡ false → is_among data_file_names name ≡ false → NotRead name → content text ≡ named_field name v → StatesValues s d z r b texts
     → StatesValues s d z r b (texts ++ text ∷ []) × (content_fault texts n (named_field name v) ≡ None)
 adds-other s d z r b texts text name v n a f other e h = (
@@ -284,7 +311,9 @@ adds-other s d z r b texts text name v n a f other e h = (
   rw (a, f, other SampleType, other Dimension, other Sizes, other Encoding, other Endian) refl,
 )
 
-pub adds-passed : (s : Option Sample) (d : Option ℕ) (z : Option (counted.Sizes × ℕ)) (r : Bool) (b : Option Bool) (texts : List (List ℕ)) (text : List ℕ) (n : ℕ) (k : Content)
+pub adds-passed :
+    (s : Option Sample) (d : Option ℕ) (z : Option (counted.Sizes × ℕ)) (r : Bool) (b : Option Bool) (texts : List (List ℕ)) (text : List ℕ) (n : ℕ)
+        (k : Content)
     → passed_over ≡ k → content text ≡ k → StatesValues s d z r b texts → StatesValues s d z r b (texts ++ text ∷ []) × (content_fault texts n k ≡ None)
 adds-passed s d z r b texts text n k p e h = (
   states-same s d z r b texts text (λ f. ap (value_if (field_name f)) (e ∙ sym p)) h,

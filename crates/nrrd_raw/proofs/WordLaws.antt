@@ -4,7 +4,7 @@ use Rattle.std.specs.Bool.{Decides, one_answer}
 use Rattle.std.specs.Str.{str_to_ascii_lowercase}
 use Rattle.std.proofs.lemmas.Str.Ascii.{lowercase-lowercase}
 use Rattle.std.proofs.lemmas.Slice.Eq.{bytes_eq-Decides}
-use Rattle.iso_model.specs.Orders.{same_list}
+use Rattle.lists.specs.Orders.{same_list}
 
 pub same_word : (r : Bool) (a b : List ℕ) → Decides r (str_to_ascii_lowercase a ≡ str_to_ascii_lowercase b) → str_to_ascii_lowercase b ≡ b
     → r ≡ same_list (str_to_ascii_lowercase a) b

@@ -1,6 +1,6 @@
 -- What a line says, and how its parts are found.
 use Rattle.std.specs.Str.{str_to_ascii_lowercase}
-use Rattle.iso_model.specs.HeaderLines as lines
+use Rattle.iso_formats.specs.HeaderLines as lines
 use Rattle.nrrd_raw.specs.declared.content.Content.{Content}
 use Rattle.nrrd_raw.specs.declared.content.Content.TheVariants.{PassedOver, Field, Unreadable}
 

@@ -1,9 +1,9 @@
-pub mod Causes
+pub mod FaultCauses
 pub mod Contents
-pub mod Ends
-pub mod Faults
+pub mod LineEnds
+pub mod GridFaultWords
 pub mod Forms
-pub mod Fronts
+pub mod HeaderFronts
 pub mod Headers
 pub mod Names
 pub mod Shapes

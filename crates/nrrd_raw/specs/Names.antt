@@ -1,8 +1,8 @@
 -- The words of a header, as the code reads them.
 use Rattle.std.specs.Prelude.{◌≡◌, ℕ, true, false, List, [], ◌∷◌, codes, take}
-use Rattle.iso_model.specs.declared.Field.{Field}
-use Rattle.iso_model.specs.Orders.{same_list}
-use Rattle.iso_model.specs.HeaderLines as lines
+use Rattle.iso_formats.specs.declared.Field.{Field}
+use Rattle.lists.specs.Orders.{same_list}
+use Rattle.iso_formats.specs.HeaderLines as lines
 use Rattle.nrrd_raw.specs.declared.values.Sample.{Sample}
 use Rattle.nrrd_raw.specs.declared.values.Sizes.{Sizes}
 use Rattle.nrrd_raw.specs.declared.words.Key.{Key}

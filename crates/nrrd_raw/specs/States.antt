@@ -1,13 +1,13 @@
 -- What the lines of a header state so far.
 use Rattle.std.specs.Prelude.{◌≡◌, ℕ, ◌+◌, ◌≤◌, ◌++◌, map, Bool, true, List, [], ◌∷◌, length, Option, Some, None, IfSome, is_some, if◌then◌else◌}
 use Rattle.std.specs.Option.{option_map}
-use Rattle.iso_model.specs.declared.Field.{Field}
-use Rattle.iso_model.specs.declared.Field.TheVariants.{SampleType, Dimension, Sizes, Encoding, Endian}
-use Rattle.iso_model.specs.HeaderLines as lines
-use Rattle.iso_model.specs.GridFaults.{line_of, content_fault, missing_fault, count_fault, all_fields}
-use Rattle.iso_model.specs.GridFaults as cause
+use Rattle.iso_formats.specs.declared.Field.{Field}
+use Rattle.iso_formats.specs.declared.Field.TheVariants.{SampleType, Dimension, Sizes, Encoding, Endian}
+use Rattle.iso_formats.specs.HeaderLines as lines
+use Rattle.iso_formats.specs.GridFaults.{line_of, content_fault, missing_fault, count_fault, all_fields}
+use Rattle.iso_formats.specs.GridFaults as cause
 use Rattle.nrrd_raw.specs.declared.faults.GridFault.{GridFault}
-use Rattle.nrrd_raw.specs.Causes.{cause_of}
+use Rattle.nrrd_raw.specs.FaultCauses.{cause_of}
 use Rattle.nrrd_raw.specs.declared.values.Sample.{Sample}
 use Rattle.nrrd_raw.specs.declared.values.Sizes as counted
 use Rattle.nrrd_raw.specs.declared.stated.Stated.{Stated}
@@ -26,7 +26,8 @@ abbrev pub raw_view : Bool → Option Bool
 raw_view raw = if raw then Some true else None
 
 -- the lines, the first one among them, state these values, and the sizes stand on this line
-pub record StatesValues (sample : Option Sample) (dimension : Option ℕ) (sizes : Option (counted.Sizes × ℕ)) (raw : Bool) (big : Option Bool) (texts : List (List ℕ)) : Type 0 where
+pub record StatesValues (sample : Option Sample) (dimension : Option ℕ) (sizes : Option (counted.Sizes × ℕ)) (raw : Bool) (big : Option Bool)
+    (texts : List (List ℕ)) : Type 0 where
   pub begun : 1 ≤ length texts
   pub sample_type : Reads lines.sample_of (lines.values (lines.field_name SampleType) texts) (option_map sample_view sample)
   pub axes : Reads lines.dimension_of (lines.values (lines.field_name Dimension) texts) dimension

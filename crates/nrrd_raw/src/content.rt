@@ -2,7 +2,7 @@
 
 ghost use Rattle.std.specs.Prelude.{◌≡◌, ◌≤◌, ◌-◌, nat_eq, length, take, drop};
 ghost use Rattle.std.specs.List.{position_or_len, prefix_len, suffix_len};
-ghost use Rattle.iso_model.specs.HeaderLines as lines;
+ghost use Rattle.iso_formats.specs.HeaderLines as lines;
 ghost use Rattle.nrrd_raw.specs.Contents.{content_view};
 
 /// A comment or a pair, a field with its name and its value, or none of these.

@@ -2,7 +2,7 @@
 
 ghost use Rattle.std.specs.Prelude.{◌≡◌, ℕ, ◌*◌, ◌≤◌, ℤ, pos, List, length, All, slice_index};
 ghost use Rattle.std.specs.Int.{w8, w16, w32, cast_signed};
-ghost use Rattle.iso_model.specs.GridFile.{IsRegularHeader, samples_of};
+ghost use Rattle.iso_formats.specs.GridFile.{IsRegularHeader, samples_of};
 ghost use Rattle.nrrd_raw.specs.Shapes.{InRange};
 ghost use Rattle.nrrd_raw.specs.Forms.{HasValues};
 

@@ -1,6 +1,6 @@
 //! Why a file gives no grid.
 
-use iso_model::Field;
+use iso_formats::Field;
 use thiserror::Error;
 
 /// Why a file gives no grid. Of the causes that its bytes have, the first in reading order is answered.

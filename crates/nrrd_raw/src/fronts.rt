@@ -3,11 +3,11 @@
 ghost use Rattle.std.specs.Prelude.{◌≡◌, ℕ, ◌+◌, ◌<◌, ◌≤◌, ◌==◌, [], length, IfSome, IfErr, OnOk, IsTrue, IsFalse};
 ghost use Rattle.std.specs.Io.KnownBytes.{Consumes};
 ghost use Rattle.arrayvec.specs.ArrayVec.{array_vec_len};
-ghost use Rattle.iso_model.specs.GridFaults.{HasHeaderFault};
-ghost use Rattle.nrrd_raw.specs.Causes.{cause_of};
-ghost use Rattle.nrrd_raw.specs.Ends as ends;
-ghost use Rattle.nrrd_raw.specs.Faults.{BlamesShelf, is_header_fault, is_shelf_fault};
-ghost use Rattle.nrrd_raw.specs.Fronts.{HasFront, IsFront, IsNoBeginning, IsUnfit, TakesFitting, FitsFirst};
+ghost use Rattle.iso_formats.specs.GridFaults.{HasHeaderFault};
+ghost use Rattle.nrrd_raw.specs.FaultCauses.{cause_of};
+ghost use Rattle.nrrd_raw.specs.LineEnds as ends;
+ghost use Rattle.nrrd_raw.specs.GridFaultWords.{BlamesShelf, is_header_fault, is_shelf_fault};
+ghost use Rattle.nrrd_raw.specs.HeaderFronts.{HasFront, IsFront, IsNoBeginning, IsUnfit, TakesFitting, FitsFirst};
 ghost use Rattle.nrrd_raw.specs.Taken.{TakesAtMost};
 
 use crate::faults::GridFault;

@@ -21,7 +21,7 @@ pub struct Header {
 
 impl Model for Header {
     ghost use Rattle.std.specs.Prelude.{take, length};
-    ghost use Rattle.iso_model.specs.GridFile as GridFile;
+    ghost use Rattle.iso_formats.specs.GridFile as GridFile;
     ghost use Rattle.nrrd_raw.specs.Shapes.{HasShape, all_sizes, axes-stated, sizes-stated};
 
     ghost Value = { GridFile.Header };

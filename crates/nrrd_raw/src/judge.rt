@@ -1,11 +1,11 @@
 //! Judging the lines of a header.
 
 ghost use Rattle.std.specs.Prelude.{◌≡◌, ◌<◌, ◌≤◌, [], List, ℕ, length, slice_index_or, IfErr, IfOk, IsTrue, IsFalse};
-ghost use Rattle.iso_model.specs.HeaderLines.{HasLines, is_first_line};
-ghost use Rattle.iso_model.specs.GridFile.{IsRegularHeader, SpellHeader};
-ghost use Rattle.iso_model.specs.GridFaults.{lines_fault};
-ghost use Rattle.nrrd_raw.specs.Causes.{cause_of};
-ghost use Rattle.nrrd_raw.specs.Faults.{is_header_fault, is_shelf_fault};
+ghost use Rattle.iso_formats.specs.HeaderLines.{HasLines, is_first_line};
+ghost use Rattle.iso_formats.specs.GridFile.{IsRegularHeader, SpellHeader};
+ghost use Rattle.iso_formats.specs.GridFaults.{lines_fault};
+ghost use Rattle.nrrd_raw.specs.FaultCauses.{cause_of};
+ghost use Rattle.nrrd_raw.specs.GridFaultWords.{is_header_fault, is_shelf_fault};
 
 use crate::faults::GridFault;
 use crate::headers::Header;

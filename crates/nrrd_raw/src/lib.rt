@@ -26,5 +26,5 @@ mod words;
 pub use faults::GridFault;
 pub use grids::Grid;
 pub use headers::Header;
-pub use iso_model::Field;
+pub use iso_formats::Field;
 pub use reading::{read_grid, read_header, read_samples};

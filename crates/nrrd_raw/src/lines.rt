@@ -2,7 +2,7 @@
 
 ghost use Rattle.std.specs.Prelude.{◌≡◌, ◌+◌, ◌≤◌, ◌<◌, nat_eq, length, drop};
 ghost use Rattle.std.specs.List.{position_or_len};
-ghost use Rattle.nrrd_raw.specs.Ends as ends;
+ghost use Rattle.nrrd_raw.specs.LineEnds as ends;
 
 /// The text of the line that begins at `from`, without its end, which is LF or CR LF, and the place behind that end.
 pub(crate) fn line_at(bytes: &[u8], from: usize) -> (&[u8], usize)

@@ -2,7 +2,7 @@
 
 ghost use Rattle.std.specs.Prelude.{◌≡◌, ℕ, ◌+◌, ◌*◌, ◌≤◌, ◌<◌, ◌^◌, length, slice_index, true, false, Some, None, IfSome, if◌then◌else◌};
 ghost use Rattle.std.specs.Option.{option_map};
-ghost use Rattle.iso_model.specs.HeaderLines as lines;
+ghost use Rattle.iso_formats.specs.HeaderLines as lines;
 ghost use Rattle.nrrd_raw.specs.Names.{sizes_view};
 
 use crate::content::is_blank;

@@ -1,7 +1,7 @@
 //! Bytes from a shelf.
 
 ghost use Rattle.std.specs.Prelude.{◌≡◌, ◌≤◌, length, IsOk, IfOk, IfErr, IsTrue};
-ghost use Rattle.nrrd_raw.specs.Faults.{BlamesShelf, is_shelf_fault};
+ghost use Rattle.nrrd_raw.specs.GridFaultWords.{BlamesShelf, is_shelf_fault};
 ghost use Rattle.std.specs.Io.KnownBytes.{Keeps};
 ghost use Rattle.nrrd_raw.specs.Taken.{FillsUp, TakesAtMost, TakesByte};
 

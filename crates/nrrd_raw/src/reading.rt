@@ -2,11 +2,11 @@
 
 ghost use Rattle.std.specs.Prelude.{◌≡◌, ℕ, ◌++◌, IfSome, ◌+◌, ◌*◌, ◌≤◌, ◌<◌, ◌^◌, Result, Ok, Err, OnErr, IfOk, IfErr, OnOk, IsTrue, IsFalse, None, Some, All, length, vec_len};
 ghost use Rattle.iso_model.specs.Values.{IsRegularGrid, product};
-ghost use Rattle.iso_model.specs.GridFile.{IsRegularHeader, SpellsGrid, SpellsSamples, sample_limit, samples_of};
-ghost use Rattle.iso_model.specs.GridFaults.{HasGridFault, HasHeaderFault, HasSampleFault};
+ghost use Rattle.iso_formats.specs.GridFile.{IsRegularHeader, SpellsGrid, SpellsSamples, sample_limit, samples_of};
+ghost use Rattle.iso_formats.specs.GridFaults.{HasGridFault, HasHeaderFault, HasSampleFault};
 ghost use Rattle.std.specs.Io.KnownBytes.{IsAtEnd};
-ghost use Rattle.nrrd_raw.specs.Causes.{ReadsSamples, ReadsMore, IsCutOff, IsDataFault, cause_of};
-ghost use Rattle.nrrd_raw.specs.Faults.{BlamesShelf, is_shelf_fault, is_header_fault, is_sample_fault, is_data_fault, is_piece_fault};
+ghost use Rattle.nrrd_raw.specs.FaultCauses.{ReadsSamples, ReadsMore, IsCutOff, IsDataFault, cause_of};
+ghost use Rattle.nrrd_raw.specs.GridFaultWords.{BlamesShelf, is_shelf_fault, is_header_fault, is_sample_fault, is_data_fault, is_piece_fault};
 ghost use Rattle.nrrd_raw.specs.Headers.{HeaderIsRead};
 ghost use Rattle.nrrd_raw.specs.Shapes.{InRange};
 ghost use Rattle.nrrd_raw.specs.Taken.{TakesAtMost};

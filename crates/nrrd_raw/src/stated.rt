@@ -9,7 +9,7 @@ use crate::headers::Header;
 use crate::numerals::{dimension_of, is_zero, sizes_of};
 use crate::values::{Sample, Sizes};
 use crate::words::{Key, big_endian_of, is_raw, key_of, sample_of};
-use iso_model::Field;
+use iso_formats::Field;
 
 /// The values of the fields so far, and the number of the line of the sizes.
 #[derive(Clone, Copy, Drop)]
@@ -26,11 +26,11 @@ impl Stated {
     ghost use Rattle.std.specs.Prelude.{◌≡◌, ℕ, ◌+◌, ◌≤◌, false, List, [], length, drop, slice_index_or, is_some, IfErr, IfOk, IsTrue, IsFalse, None};
     ghost use Rattle.std.specs.List.{AllPass};
     ghost use Rattle.std.specs.Str.{str_to_ascii_lowercase};
-    ghost use Rattle.iso_model.specs.declared.Field.TheVariants as field;
-    ghost use Rattle.iso_model.specs.HeaderLines as lines;
-    ghost use Rattle.iso_model.specs.GridFile.{IsRegularHeader, SpellHeader, is_sound_line};
-    ghost use Rattle.nrrd_raw.specs.Faults.{is_header_fault, is_shelf_fault};
-    ghost use Rattle.nrrd_raw.specs.Causes.{cause_of};
+    ghost use Rattle.iso_formats.specs.declared.Field.TheVariants as field;
+    ghost use Rattle.iso_formats.specs.HeaderLines as lines;
+    ghost use Rattle.iso_formats.specs.GridFile.{IsRegularHeader, SpellHeader, is_sound_line};
+    ghost use Rattle.nrrd_raw.specs.GridFaultWords.{is_header_fault, is_shelf_fault};
+    ghost use Rattle.nrrd_raw.specs.FaultCauses.{cause_of};
     ghost use Rattle.nrrd_raw.specs.States.{States, AddsLine, HasCause, has_field, whole_fault};
 
     /// Behind the first line nothing is stated.

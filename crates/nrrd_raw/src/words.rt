@@ -3,13 +3,13 @@
 ghost use Rattle.std.specs.Prelude.{◌≡◌, false, IsTrue, IfSome, IfNone};
 ghost use Rattle.std.specs.Option.{option_map};
 ghost use Rattle.std.specs.Str.{str_to_ascii_lowercase};
-ghost use Rattle.iso_model.specs.declared.Field.{Field};
-ghost use Rattle.iso_model.specs.Orders.{same_list};
-ghost use Rattle.iso_model.specs.HeaderLines as lines;
+ghost use Rattle.iso_formats.specs.declared.Field.{Field};
+ghost use Rattle.lists.specs.Orders.{same_list};
+ghost use Rattle.iso_formats.specs.HeaderLines as lines;
 ghost use Rattle.nrrd_raw.specs.Names.{IsKey, sample_view, signed_8, unsigned_8, signed_16, unsigned_16, signed_32, unsigned_32};
 
 use crate::values::Sample;
-use iso_model::Field;
+use iso_formats::Field;
 
 /// Whether the text is the word.
 pub(crate) fn is_word(text: &[u8], word: &[u8]) -> bool

@@ -1,5 +1,5 @@
 mod Waiting
 mod Texts
 mod Parts
-mod Pieces
+mod TextPieces
 mod TextLaws

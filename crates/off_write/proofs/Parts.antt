@@ -3,7 +3,7 @@ use Rattle.std.proofs.Common.{◌≡◌, ℕ, List, [], ◌∷◌, ◌++◌, len
 use Rattle.std.specs.Fmt.{decimal}
 use Rattle.iso_base.specs.Fronts.{AppendsFront}
 use Rattle.iso_model.specs.Faces.{Mesh}
-use Rattle.iso_model.specs.MeshText.{mesh_text}
+use Rattle.iso_formats.specs.MeshText.{mesh_text}
 use Rattle.off_write.specs.Pages.{format_lines, head, vertex_lines, simplex_lines, AllButPage}
 use Rattle.off_write.proofs.Waiting.{waits_more, waits_on, waits_front, front_more}
 
@@ -26,11 +26,16 @@ pub front_in_simplices : (a b c : Option (List ℕ)) (d : ℕ) (m : Mesh) (first
     → AllButPage a b (first ++ vertex_lines m.vertices) second → AppendsFront b c (second ++ simplex_lines d m.simplices) → AppendsFront a c (mesh_text d m)
 front_in_simplices a b c d m first second e p q =
     let lines = simplex_lines d m.simplices in
-    rw (← text_is d m, ← e) (waits_front a b c ((first ++ vertex_lines m.vertices) ++ lines) (second ++ lines) (waits_more a b (first ++ vertex_lines m.vertices) second lines p) q)
+    rw (← text_is d m, ← e)
+        (waits_front a b c ((first ++ vertex_lines m.vertices) ++ lines) (second ++ lines)
+             (waits_more a b (first ++ vertex_lines m.vertices) second lines p) q)
 
 -- the last page waits
 pub last_waits : (a b c : Option (List ℕ)) (d : ℕ) (m : Mesh) (first second third : List ℕ) → first ≡ head d (length m.vertices) (length m.simplices)
-    → AllButPage a b (first ++ vertex_lines m.vertices) second → AllButPage b c (second ++ simplex_lines d m.simplices) third → AllButPage a c (mesh_text d m) third
+    → AllButPage a b (first ++ vertex_lines m.vertices) second → AllButPage b c (second ++ simplex_lines d m.simplices) third
+        → AllButPage a c (mesh_text d m) third
 last_waits a b c d m first second third e p q =
     let lines = simplex_lines d m.simplices in
-    rw (← text_is d m, ← e) (waits_on a b c ((first ++ vertex_lines m.vertices) ++ lines) (second ++ lines) third (waits_more a b (first ++ vertex_lines m.vertices) second lines p) q)
+    rw (← text_is d m, ← e)
+        (waits_on a b c ((first ++ vertex_lines m.vertices) ++ lines) (second ++ lines) third
+             (waits_more a b (first ++ vertex_lines m.vertices) second lines p) q)

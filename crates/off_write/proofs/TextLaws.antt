@@ -1,14 +1,16 @@
 -- Two meshes of one dimension that have the same text are the same.
-use Rattle.std.proofs.Common.{◌≡◌, ℕ, ◌+◌, ◌/◌, ◌%◌, ◌^◌, ◌<◌, ◌≤◌, ◌⊎◌, inl, inr, List, [], ◌∷◌, ◌++◌, length, map, ℤ, pos, negsuc, nat_abs, refl, sym, ap, ◌∙◌, arith, append_assoc}
+use Rattle.std.proofs.Common.{◌≡◌, ℕ, ◌+◌, ◌/◌, ◌%◌, ◌^◌, ◌<◌, ◌≤◌, ◌⊎◌, inl, inr, List, [], ◌∷◌, ◌++◌, length, map, ℤ, pos, negsuc, nat_abs, refl}
+use Rattle.std.proofs.Common.{sym, ap, ◌∙◌, arith, append_assoc}
 use Rattle.std.specs.Prelude.{All}
 use Rattle.std.specs.Fmt.{decimal}
 use Rattle.std.proofs.lemmas.Fmt.{decimal_injective}
 use Rattle.std.proofs.lemmas.List.{append_cancel_left}
 use Rattle.std.proofs.lemmas.List.Elements.{All-head, All-tail}
 use Rattle.iso_model.specs.Faces.{Mesh}
-use Rattle.iso_model.specs.MeshText.{line, last_digits, millionths, mesh_text, TextFixesMesh}
+use Rattle.iso_formats.specs.MeshText.{line, last_digits, millionths, mesh_text, TextFixesMesh}
 use Rattle.off_write.specs.Pages.{format_lines, head, vertex_lines, simplex_lines}
-use Rattle.off_write.proofs.Pieces.{Above, Above-append, Above-rest, Above-less, same_piece, ArePlain, same_line, line_not_nothing, decimal_above, last_above}
+use Rattle.off_write.proofs.TextPieces.{Above, Above-append, Above-rest, Above-less, same_piece, ArePlain, same_line, line_not_nothing, decimal_above}
+use Rattle.off_write.proofs.TextPieces.{last_above}
 use Rattle.off_write.proofs.Parts.{text_is}
 
 -- ---- a coordinate's text fixes it
@@ -30,12 +32,15 @@ six_digits x y e f =
 size_fixed : (x y : ℕ) → x < 2 ^ 64 → y < 2 ^ 64 → decimal (x / 1000000) ++ 46 ∷ last_digits 6 x ≡ decimal (y / 1000000) ++ 46 ∷ last_digits 6 y → x ≡ y
 size_fixed x y h k e =
     let less = λ (n : ℕ). Above-less 46 47 (decimal n) (omega arith) (decimal_above n) in
-    let r = same_piece 46 (decimal (x / 1000000)) (decimal (y / 1000000)) (last_digits 6 x) (last_digits 6 y) 46 46 (less (x / 1000000)) (less (y / 1000000)) (omega arith) (omega arith) e in
+    let r =
+        same_piece 46 (decimal (x / 1000000)) (decimal (y / 1000000)) (last_digits 6 x) (last_digits 6 y) 46 46 (less (x / 1000000))
+            (less (y / 1000000)) (omega arith) (omega arith) e in
     six_digits x y r.2 (decimal_injective (x / 1000000) (y / 1000000) (omega arith) (omega arith) r.0)
 
 size_above : (n k : ℕ) → Above 45 (decimal n ++ 46 ∷ last_digits 6 k)
 size_above n k =
-    Above-append 45 (decimal n) (46 ∷ last_digits 6 k) (Above-less 45 47 (decimal n) (omega arith) (decimal_above n)) (omega arith, Above-less 45 47 (last_digits 6 k) (omega arith) (last_above 6 k))
+    Above-append 45 (decimal n) (46 ∷ last_digits 6 k) (Above-less 45 47 (decimal n) (omega arith) (decimal_above n))
+        (omega arith, Above-less 45 47 (last_digits 6 k) (omega arith) (last_above 6 k))
 
 no_minus : (xs ys : List ℕ) → Above 45 xs → xs ≡ 45 ∷ ys → ⊥
 no_minus [] ys p e = cc
@@ -43,8 +48,14 @@ no_minus (x ∷ xs) ys p e = let f : x ≡ 45 = cc in omega (arith, p.0)
 
 millionths_fixed : (y z : ℤ) → nat_abs y ≤ 2 ^ 63 → nat_abs z ≤ 2 ^ 63 → millionths y ≡ millionths z → y ≡ z
 millionths_fixed (pos x) (pos y) h k e = ap pos (size_fixed x y (omega arith) (omega arith) e)
-millionths_fixed (pos x) (negsuc y) h k e = absurd (no_minus (decimal (x / 1000000) ++ 46 ∷ last_digits 6 x) (decimal ((y + 1) / 1000000) ++ 46 ∷ last_digits 6 (y + 1)) (size_above (x / 1000000) x) e)
-millionths_fixed (negsuc x) (pos y) h k e = absurd (no_minus (decimal (y / 1000000) ++ 46 ∷ last_digits 6 y) (decimal ((x + 1) / 1000000) ++ 46 ∷ last_digits 6 (x + 1)) (size_above (y / 1000000) y) (sym e))
+millionths_fixed (pos x) (negsuc y) h k e =
+    absurd
+        (no_minus (decimal (x / 1000000) ++ 46 ∷ last_digits 6 x) (decimal ((y + 1) / 1000000) ++ 46 ∷ last_digits 6 (y + 1))
+             (size_above (x / 1000000) x) e)
+millionths_fixed (negsuc x) (pos y) h k e =
+    absurd
+        (no_minus (decimal (y / 1000000) ++ 46 ∷ last_digits 6 y) (decimal ((x + 1) / 1000000) ++ 46 ∷ last_digits 6 (x + 1))
+             (size_above (y / 1000000) y) (sym e))
 millionths_fixed (negsuc x) (negsuc y) h k e =
     let f : decimal ((x + 1) / 1000000) ++ 46 ∷ last_digits 6 (x + 1) ≡ decimal ((y + 1) / 1000000) ++ 46 ∷ last_digits 6 (y + 1) = cc in
     let s = size_fixed (x + 1) (y + 1) (omega arith) (omega arith) f in
@@ -52,7 +63,8 @@ millionths_fixed (negsuc x) (negsuc y) h k e =
 
 millionths_plain : (z : ℤ) → Above 32 (millionths z)
 millionths_plain (pos x) = Above-less 32 45 (decimal (x / 1000000) ++ 46 ∷ last_digits 6 x) (omega arith) (size_above (x / 1000000) x)
-millionths_plain (negsuc x) = (omega arith, Above-less 32 45 (decimal ((x + 1) / 1000000) ++ 46 ∷ last_digits 6 (x + 1)) (omega arith) (size_above ((x + 1) / 1000000) (x + 1)))
+millionths_plain (negsuc x) =
+    (omega arith, Above-less 32 45 (decimal ((x + 1) / 1000000) ++ 46 ∷ last_digits 6 (x + 1)) (omega arith) (size_above ((x + 1) / 1000000) (x + 1)))
 
 decimal_plain : (n : ℕ) → Above 32 (decimal n)
 decimal_plain n = Above-less 32 47 (decimal n) (omega arith) (decimal_above n)
@@ -106,14 +118,16 @@ numbers_fixed (y ∷ v) (z ∷ w) p q e =
 
 -- ---- lines
 
-vertex_line_fixed : (d : ℕ) (v w : List ℤ) (s t : List ℕ) → 1 ≤ d → length v ≡ d → length w ≡ d → line (map millionths v) ++ s ≡ line (map millionths w) ++ t → (map millionths v ≡ map millionths w) × (s ≡ t)
+vertex_line_fixed : (d : ℕ) (v w : List ℤ) (s t : List ℕ) → 1 ≤ d → length v ≡ d → length w ≡ d
+    → line (map millionths v) ++ s ≡ line (map millionths w) ++ t → (map millionths v ≡ map millionths w) × (s ≡ t)
 vertex_line_fixed d [] w s t h p q e = absurd (omega arith)
 vertex_line_fixed d (y ∷ v) [] s t h p q e = absurd (omega arith)
 vertex_line_fixed d (y ∷ v) (z ∷ w) s t h p q e =
     let r = same_line (millionths y) (millionths z) (map millionths v) (map millionths w) s t (coordinates_plain (y ∷ v)) (coordinates_plain (z ∷ w)) e in
     (cc (r.0, r.1), r.2)
 
-simplex_line_fixed : (d : ℕ) (v w s t : List ℕ) → line (decimal d ∷ map decimal v) ++ s ≡ line (decimal d ∷ map decimal w) ++ t → (map decimal v ≡ map decimal w) × (s ≡ t)
+simplex_line_fixed : (d : ℕ) (v w s t : List ℕ) → line (decimal d ∷ map decimal v) ++ s ≡ line (decimal d ∷ map decimal w) ++ t
+    → (map decimal v ≡ map decimal w) × (s ≡ t)
 simplex_line_fixed d v w s t e =
     let r = same_line (decimal d) (decimal d) (map decimal v) (map decimal w) s t (decimal_plain d, numbers_plain v) (decimal_plain d, numbers_plain w) e in
     (r.1, r.2)
@@ -155,8 +169,12 @@ vertices_fixed d (v ∷ V) [] S T h p q i j e =
     let f = sym e ∙ append_assoc (line (map millionths v)) (vertex_lines V) (simplex_lines d S) in
     absurd (no_vertex d T v (vertex_lines V ++ simplex_lines d S) h (All-head (HasLength d) v V p) f)
 vertices_fixed d (v ∷ V) (w ∷ W) S T h p q i j e =
-    let f = sym (append_assoc (line (map millionths v)) (vertex_lines V) (simplex_lines d S)) ∙ e ∙ append_assoc (line (map millionths w)) (vertex_lines W) (simplex_lines d T) in
-    let r = vertex_line_fixed d v w (vertex_lines V ++ simplex_lines d S) (vertex_lines W ++ simplex_lines d T) h (All-head (HasLength d) v V p) (All-head (HasLength d) w W q) f in
+    let f =
+        sym (append_assoc (line (map millionths v)) (vertex_lines V) (simplex_lines d S)) ∙ e
+            ∙ append_assoc (line (map millionths w)) (vertex_lines W) (simplex_lines d T) in
+    let r =
+        vertex_line_fixed d v w (vertex_lines V ++ simplex_lines d S) (vertex_lines W ++ simplex_lines d T) h (All-head (HasLength d) v V p)
+            (All-head (HasLength d) w W q) f in
     let a = coordinates_fixed v w (All-head IsShort v V i) (All-head IsShort w W j) r.0 in
     let b = vertices_fixed d V W S T h (All-tail (HasLength d) v V p) (All-tail (HasLength d) w W q) (All-tail IsShort v V i) (All-tail IsShort w W j) r.1 in
     (cc (a, b.0), b.1)
@@ -181,18 +199,21 @@ counts_plain : (v s : ℕ) → ArePlain (decimal v ∷ decimal s ∷ (48 ∷ [])
 counts_plain v s = (decimal_plain v, (decimal_plain s, ((omega arith, tt), tt)))
 
 -- the text, with the format before all else
-text_split : (d : ℕ) (m : Mesh) → mesh_text d m ≡ format_lines d ++ (counts (length m.vertices) (length m.simplices) ++ (vertex_lines m.vertices ++ simplex_lines d m.simplices))
+text_split : (d : ℕ) (m : Mesh)
+    → mesh_text d m ≡ format_lines d ++ (counts (length m.vertices) (length m.simplices) ++ (vertex_lines m.vertices ++ simplex_lines d m.simplices))
 unfolding head
 text_split d m =
     let c = counts (length m.vertices) (length m.simplices) in
     sym (text_is d m) ∙ append_assoc (format_lines d ++ c) (vertex_lines m.vertices) (simplex_lines d m.simplices)
     ∙ append_assoc (format_lines d) c (vertex_lines m.vertices ++ simplex_lines d m.simplices)
 
-lines_same : (d : ℕ) (m n : Mesh) → mesh_text d m ≡ mesh_text d n → vertex_lines m.vertices ++ simplex_lines d m.simplices ≡ vertex_lines n.vertices ++ simplex_lines d n.simplices
+lines_same : (d : ℕ) (m n : Mesh) → mesh_text d m ≡ mesh_text d n
+    → vertex_lines m.vertices ++ simplex_lines d m.simplices ≡ vertex_lines n.vertices ++ simplex_lines d n.simplices
 lines_same d m n e =
     let f = append_cancel_left (format_lines d) _ _ (sym (text_split d m) ∙ e ∙ text_split d n) in
     let a = decimal (length m.vertices) in
-    let r = same_line (decimal (length m.vertices)) (decimal (length n.vertices)) (decimal (length m.simplices) ∷ (48 ∷ []) ∷ []) (decimal (length n.simplices) ∷ (48 ∷ []) ∷ [])
+    let r = same_line (decimal (length m.vertices)) (decimal (length n.vertices)) (decimal (length m.simplices) ∷ (48 ∷ []) ∷ [])
+        (decimal (length n.simplices) ∷ (48 ∷ []) ∷ [])
     (vertex_lines m.vertices ++ simplex_lines d m.simplices) (vertex_lines n.vertices ++ simplex_lines d n.simplices)
     (counts_plain (length m.vertices) (length m.simplices)) (counts_plain (length n.vertices) (length n.simplices)) f in
     r.2

@@ -1,11 +1,12 @@
 -- Lines and numbers, as the code writes them.
-use Rattle.std.proofs.Common.{◌≡◌, ℕ, ◌+◌, ◌-◌, ◌/◌, ◌^◌, ◌<◌, ◌≤◌, List, [], ◌∷◌, ◌++◌, length, map, take, drop, sym, ap, ◌∙◌, arith, append_assoc, length-append, append-nil, get_or}
+use Rattle.std.proofs.Common.{◌≡◌, ℕ, ◌+◌, ◌-◌, ◌/◌, ◌^◌, ◌<◌, ◌≤◌, List, [], ◌∷◌, ◌++◌, length, map, take, drop, sym, ap, ◌∙◌, arith, append_assoc}
+use Rattle.std.proofs.Common.{length-append, append-nil, get_or}
 use Rattle.std.specs.Fmt.{decimal}
 use Rattle.std.specs.List.{flat_map}
 use Rattle.std.proofs.lemmas.Fmt.{decimal_digit, decimal_step}
 use Rattle.std.proofs.lemmas.List.{take-append-le, take_all, take_more, flat_map_more}
 use Rattle.std.proofs.Math.Seq.{take-add}
-use Rattle.iso_model.specs.MeshText.{line}
+use Rattle.iso_formats.specs.MeshText.{line}
 
 -- ---- how many digits a number has
 
@@ -36,9 +37,11 @@ length_four n low high =
     omega arith
 
 -- digits that were written behind the first `at` bytes
-pub after_digits : (old new digits rest : List ℕ) (at : ℕ) → drop at new ≡ digits ++ rest → take at new ≡ take at old → take (at + length digits) new ≡ take at old ++ digits
+pub after_digits : (old new digits rest : List ℕ) (at : ℕ) → drop at new ≡ digits ++ rest → take at new ≡ take at old
+    → take (at + length digits) new ≡ take at old ++ digits
 after_digits old new digits rest at d t =
-    let whole : take (length digits) (digits ++ rest) ≡ digits = take-append-le (length digits) digits rest (omega arith) ∙ take_all (length digits) digits (omega arith) in
+    let whole : take (length digits) (digits ++ rest) ≡ digits =
+        take-append-le (length digits) digits rest (omega arith) ∙ take_all (length digits) digits (omega arith) in
     rw (take-add at (length digits) new, d, whole, t)
 
 -- ---- lines
@@ -49,7 +52,8 @@ line_of_map f x [] = ap (λ z. z ++ 10 ∷ []) (sym (append-nil x))
 line_of_map f x (y ∷ ys) = ap (λ z. x ++ 32 ∷ z) (line_of_map f (f y) ys) ∙ sym (append_assoc x (32 ∷ (f y ++ flat_map (λ y. 32 ∷ f y) ys)) (10 ∷ []))
 
 -- one piece more, after a space
-pub pieces_more : {X : Type 0} (f : X → List ℕ) (head page new : List ℕ) (i : ℕ) (xs : List X) (d : X) → i < length xs → page ≡ head ++ flat_map (λ y. 32 ∷ f y) (take i xs)
+pub pieces_more : {X : Type 0} (f : X → List ℕ) (head page new : List ℕ) (i : ℕ) (xs : List X) (d : X) → i < length xs
+    → page ≡ head ++ flat_map (λ y. 32 ∷ f y) (take i xs)
     → new ≡ (page ++ 32 ∷ []) ++ f (get_or xs i d) → new ≡ head ++ flat_map (λ y. 32 ∷ f y) (take (i + 1) xs)
 pieces_more f head page new i xs d h p e =
     let x = get_or xs i d in

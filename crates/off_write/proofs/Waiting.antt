@@ -1,5 +1,6 @@
 -- Text that was put but for a page of it, piece by piece.
-use Rattle.std.proofs.Common.{◌≡◌, ℕ, ◌+◌, ◌<◌, get_or, List, [], ◌++◌, length, take, drop, ◌∷◌, Option, Some, None, Result, Ok, Err, OnErr, append_assoc, append-nil, arith, ap, sym, ◌∙◌, length-append, refl}
+use Rattle.std.proofs.Common.{◌≡◌, ℕ, ◌+◌, ◌<◌, get_or, List, [], ◌++◌, length, take, drop, ◌∷◌, Option, Some, None, Result, Ok, Err, OnErr}
+use Rattle.std.proofs.Common.{append_assoc, append-nil, arith, ap, sym, ◌∙◌, length-append, refl}
 use Rattle.std.specs.Io.KnownBytes.{Appends}
 use Rattle.std.proofs.lemmas.List.{take-append-le, take_at, take-append-drop, take_more, flat_map_more}
 use Rattle.std.proofs.lemmas.List.Concat.{flat_map-append}
@@ -54,7 +55,8 @@ front_more a c text more p = (p.0, omega (arith, p.1, length-append text more), 
 -- all of a piece and a front of the next
 front_after : (a b c : Option (List ℕ)) (put page : List ℕ) → Appends a b put → AppendsFront b c page → AppendsFront a c (put ++ page)
 front_after a b c put page p q =
-    let e : take (length put + q.0) (put ++ page) ≡ put ++ take q.0 page = rw (take-add (length put) q.0 (put ++ page), take_at put page (length put) refl, drop_length put page) in
+    let e : take (length put + q.0) (put ++ page) ≡ put ++ take q.0 page =
+        rw (take-add (length put) q.0 (put ++ page), take_at put page (length put) refl, drop_length put page) in
     (length put + q.0, omega (arith, q.1, length-append put page), rw e (appends_more a b c put (take q.0 page) p q.2))
 
 -- a front of the page was put
@@ -63,7 +65,8 @@ unfolding AllButPage
 waits_front a b c text page p q = rw p.2 at (front_after a b c p.0 page p.1 q)
 
 -- the lines of a list up to one place, and the rest
-lines_split : {X : Type 0} (f : X → List ℕ) (head : List ℕ) (i : ℕ) (xs : List X) → (head ++ flat_map f (take i xs)) ++ flat_map f (drop i xs) ≡ head ++ flat_map f xs
+lines_split : {X : Type 0} (f : X → List ℕ) (head : List ℕ) (i : ℕ) (xs : List X)
+    → (head ++ flat_map f (take i xs)) ++ flat_map f (drop i xs) ≡ head ++ flat_map f xs
 lines_split f head i xs =
     append_assoc head (flat_map f (take i xs)) (flat_map f (drop i xs))
     ∙ ap (λ ys. head ++ ys) (sym (flat_map-append f (take i xs) (drop i xs)) ∙ ap (flat_map f) (take-append-drop i xs))
@@ -72,14 +75,17 @@ lines_split f head i xs =
 pub lines_front : {X : Type 0} (f : X → List ℕ) (a b c : Option (List ℕ)) (head page : List ℕ) (i : ℕ) (xs : List X)
     → AllButPage a b (head ++ flat_map f (take i xs)) page → AppendsFront b c page → AppendsFront a c (head ++ flat_map f xs)
 lines_front f a b c head page i xs p q =
-    rw (lines_split f head i xs) at (front_more a c (head ++ flat_map f (take i xs)) (flat_map f (drop i xs)) (waits_front a b c (head ++ flat_map f (take i xs)) page p q))
+    rw (lines_split f head i xs) at
+        (front_more a c (head ++ flat_map f (take i xs)) (flat_map f (drop i xs)) (waits_front a b c (head ++ flat_map f (take i xs)) page p q))
 
 -- one line more
-pub lines_more : {X : Type 0} (f : X → List ℕ) (a b c : Option (List ℕ)) (head page next : List ℕ) (i : ℕ) (xs : List X) (x : X) → i < length xs → x ≡ get_or xs i x
+pub lines_more : {X : Type 0} (f : X → List ℕ) (a b c : Option (List ℕ)) (head page next : List ℕ) (i : ℕ) (xs : List X) (x : X) → i < length xs
+    → x ≡ get_or xs i x
     → AllButPage a b (head ++ flat_map f (take i xs)) page → AllButPage b c page next → AllButPage a c (head ++ flat_map f (take (i + 1) xs)) (next ++ f x)
 lines_more f a b c head page next i xs x h e p q =
     let all : take (i + 1) xs ≡ take i xs ++ x ∷ [] = take_more xs i x h ∙ ap (λ y. take i xs ++ y ∷ []) (sym e) in
-    rw (all, ← flat_map_more f head (take i xs) x) (waits_more a c (head ++ flat_map f (take i xs)) next (f x) (waits_on a b c (head ++ flat_map f (take i xs)) page next p q))
+    rw (all, ← flat_map_more f head (take i xs) x)
+        (waits_more a c (head ++ flat_map f (take i xs)) next (f x) (waits_on a b c (head ++ flat_map f (take i xs)) page next p q))
 
 -- what holds whatever the outcome
 pub on_err : {T E Q : Type 0} (r : Result T E) → Q → OnErr r Q

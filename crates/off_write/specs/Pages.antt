@@ -1,7 +1,7 @@
 -- The parts of a mesh's text, and the page on which text waits to be put.
 use Rattle.std.specs.Prelude.{◌≡◌, ℕ, ◌==◌, List, [], ◌∷◌, ◌++◌, map, flat_map, ℤ, codes, decimal, Option, if◌then◌else◌}
 use Rattle.std.specs.Io.KnownBytes.{Appends}
-use Rattle.iso_model.specs.MeshText.{line, millionths}
+use Rattle.iso_formats.specs.MeshText.{line, millionths}
 
 -- how many bytes a page holds
 abbrev pub page_size : ℕ

@@ -1,9 +1,10 @@
 //! The lines of a mesh's text.
 
-ghost use Rattle.std.specs.Prelude.{◌≡◌, ◌+◌, ◌*◌, ◌≤◌, ◌⊎◌, ◌∷◌, ◌++◌, length, map, flat_map};
+ghost use Rattle.std.specs.Prelude.{◌≡◌, ◌+◌, ◌*◌, ◌≤◌, ◌∷◌, ◌++◌, length, map, flat_map};
 ghost use Rattle.std.specs.Fmt.{decimal};
-ghost use Rattle.iso_model.specs.MeshText.{line, millionths};
+ghost use Rattle.iso_formats.specs.MeshText.{line, millionths};
 ghost use Rattle.off_write.specs.Pages.{page_size, format_lines, head};
+ghost use Rattle.iso_model.specs.Dimensions.{IsDimension};
 
 use crate::page::Page;
 
@@ -21,7 +22,7 @@ fn push_rest(page: &mut Page, coordinates: &[i64])
 
 /// The line of a vertex: its coordinates.
 pub(crate) fn push_vertex<const D: usize>(page: &mut Page, vertex: &[i64; D])
-    requires dimension { (D ≡ 2) ⊎ ((D ≡ 3) ⊎ (D ≡ 4)) }
+    requires dimension { IsDimension D }
     requires room { length page.old + 128 ≤ page_size }
     ensures text { page.new ≡ page.old ++ line (map millionths vertex.now) }
 {
@@ -33,7 +34,7 @@ pub(crate) fn push_vertex<const D: usize>(page: &mut Page, vertex: &[i64; D])
 
 /// The line of a simplex: the dimension, and the numbers of its vertices.
 pub(crate) fn push_simplex<const D: usize>(page: &mut Page, simplex: &[u32; D])
-    requires dimension { (D ≡ 2) ⊎ ((D ≡ 3) ⊎ (D ≡ 4)) }
+    requires dimension { IsDimension D }
     requires room { length page.old + 128 ≤ page_size }
     ensures text { page.new ≡ page.old ++ line (decimal D ∷ map decimal simplex.now) }
 {

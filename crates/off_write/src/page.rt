@@ -2,7 +2,7 @@
 
 ghost use Rattle.std.specs.Prelude.{◌≡◌, ◌+◌, ◌≤◌, [], ◌∷◌, ◌++◌, length};
 ghost use Rattle.std.specs.Fmt.{decimal};
-ghost use Rattle.iso_model.specs.MeshText.{last_digits, millionths};
+ghost use Rattle.iso_formats.specs.MeshText.{last_digits, millionths};
 ghost use Rattle.off_write.specs.Pages.{page_size};
 
 use std::marker::Model;

@@ -1,11 +1,12 @@
 //! Putting a mesh's text to a sink.
 
-ghost use Rattle.std.specs.Prelude.{◌≡◌, ◌+◌, ◌≤◌, ◌⊎◌, [], ◌++◌, length, OnOk, OnErr, IfErr};
+ghost use Rattle.std.specs.Prelude.{◌≡◌, ◌+◌, ◌≤◌, [], ◌++◌, length, OnOk, OnErr, IfErr};
 ghost use Rattle.std.specs.Io.KnownBytes.{Appends};
 ghost use Rattle.iso_base.specs.Faults.{Rose, CountsFaults};
 ghost use Rattle.iso_base.specs.Fronts.{AppendsFront};
-ghost use Rattle.iso_model.specs.MeshText.{mesh_text};
+ghost use Rattle.iso_formats.specs.MeshText.{mesh_text};
 ghost use Rattle.off_write.specs.Pages.{page_size, vertex_lines, simplex_lines, AllButPage};
+ghost use Rattle.iso_model.specs.Dimensions.{IsDimension};
 
 use crate::lines::{push_head, push_simplex, push_vertex};
 use crate::page::{PAGE_SIZE, Page};
@@ -51,7 +52,7 @@ fn put_vertices<const D: usize, O: Sink>(
     page: &mut Page,
     out: &mut O,
 ) -> Result<(), Failed>
-    requires dimension { (D ≡ 2) ⊎ ((D ≡ 3) ⊎ (D ≡ 4)) }
+    requires dimension { IsDimension D }
     ensures faults { CountsFaults (O.faults out.old) (O.faults out.new) result }
     ensures waits { OnOk result (AllButPage (O.bytes out.old) (O.bytes out.new) (page.old ++ vertex_lines vertices.now) page.new) }
     ensures front { OnErr result (AppendsFront (O.bytes out.old) (O.bytes out.new) (page.old ++ vertex_lines vertices.now)) }
@@ -68,7 +69,7 @@ fn put_simplices<const D: usize, O: Sink>(
     page: &mut Page,
     out: &mut O,
 ) -> Result<(), Failed>
-    requires dimension { (D ≡ 2) ⊎ ((D ≡ 3) ⊎ (D ≡ 4)) }
+    requires dimension { IsDimension D }
     ensures faults { CountsFaults (O.faults out.old) (O.faults out.new) result }
     ensures waits { OnOk result (AllButPage (O.bytes out.old) (O.bytes out.new) (page.old ++ simplex_lines D simplices.now) page.new) }
     ensures front { OnErr result (AppendsFront (O.bytes out.old) (O.bytes out.new) (page.old ++ simplex_lines D simplices.now)) }
@@ -81,7 +82,7 @@ fn put_simplices<const D: usize, O: Sink>(
 }
 
 fn put_mesh<const D: usize, O: Sink>(mesh: &Mesh<D>, out: &mut O) -> Result<(), Failed>
-    requires dimension { (D ≡ 2) ⊎ ((D ≡ 3) ⊎ (D ≡ 4)) }
+    requires dimension { IsDimension D }
     ensures faults { CountsFaults (O.faults out.old) (O.faults out.new) result }
     ensures all { OnOk result (Appends (O.bytes out.old) (O.bytes out.new) (mesh_text D mesh.now)) }
     ensures front { OnErr result (AppendsFront (O.bytes out.old) (O.bytes out.new) (mesh_text D mesh.now)) }
@@ -108,7 +109,7 @@ fn put_mesh<const D: usize, O: Sink>(mesh: &Mesh<D>, out: &mut O) -> Result<(), 
 ///
 /// After a failure a front of the text was put.
 pub fn write_mesh<const D: usize, O: Sink>(mesh: &Mesh<D>, out: &mut O) -> Result<(), WriteFault>
-    requires dimension { (D ≡ 2) ⊎ ((D ≡ 3) ⊎ (D ≡ 4)) }
+    requires dimension { IsDimension D }
     ensures text { OnOk result (Appends (O.bytes out.old) (O.bytes out.new) (mesh_text D mesh.now)) }
     ensures front { OnErr result (AppendsFront (O.bytes out.old) (O.bytes out.new) (mesh_text D mesh.now)) }
     ensures later { O.faults out.old ≤ O.faults out.new }

@@ -7,7 +7,8 @@ use Rattle.std.specs.Prelude.{◌≡◌, ℕ, zero, suc, ℤ, pos, negsuc, ◌+�
 use Rattle.std.proofs.Common.{arith, ap, sym, ◌∙◌, refl, get_or}
 use Rattle.std.proofs.lemmas.Int.{ints}
 use Rattle.std.proofs.lemmas.Bool.Decides.{nat_tests}
-use Rattle.polynomials.proofs.IntLaws.{add-zero_left, add-zero_right, add-assoc, mul-comm, mul-zero_left, mul-one_left, mul-one_right, mul-minus_one, mul-distrib_left, mul-distrib_right, mul-assoc, mul-swap, mul-pairs}
+use Rattle.polynomials.proofs.IntLaws.{add-zero_left, add-zero_right, add-assoc, mul-comm, mul-zero_left, mul-one_left, mul-one_right, mul-minus_one}
+use Rattle.polynomials.proofs.IntLaws.{mul-distrib_left, mul-distrib_right, mul-assoc, mul-swap, mul-pairs}
 
 infixl 6 ◌⊕◌
 infixl 6 ◌⊖◌
@@ -115,7 +116,8 @@ place-same (x ∷ xs) (y ∷ ys) e = first_test x y xs ys (place-same xs ys) (lt
 value-with_var : (ρ : List ℤ) (x : ℕ) (ys : List ℕ) → value_of_vars ρ (with_var x ys) ≡ get_or ρ x (pos 0) *ℤ value_of_vars ρ ys
 value-with_var ρ x [] = refl
 value-with_var ρ x (y ∷ ys) =
-    elim (leb x y) as (λ t. value_of_vars ρ (elim t as (λ _. List ℕ) [ true ↦ x ∷ y ∷ ys | false ↦ y ∷ with_var x ys ]) ≡ get_or ρ x (pos 0) *ℤ value_of_vars ρ (y ∷ ys)) [
+    elim (leb x y) as (λ t. value_of_vars ρ (elim t as (λ _. List ℕ) [ true ↦ x ∷ y ∷ ys | false ↦ y ∷ with_var x ys ]) ≡ get_or ρ x (pos 0) *ℤ
+    value_of_vars ρ (y ∷ ys)) [
       | true ↦ refl
       | false ↦ ap (λ v. get_or ρ y (pos 0) *ℤ v) (value-with_var ρ x ys) ∙ mul-swap (get_or ρ y (pos 0)) (get_or ρ x (pos 0)) (value_of_vars ρ ys)
     ]
@@ -186,13 +188,16 @@ value-negated ρ p =
     value-mul_term ρ (negsuc 0) [] p ∙ ap (λ w. w *ℤ value_of ρ p) (mul-one_right (negsuc 0)) ∙ mul-minus_one (value_of ρ p)
 
 value-normal : (ρ : List ℤ) (a : Expr) → value_of ρ (normal a) ≡ value ρ a
-value-normal ρ (var i) = add-zero_right (pos 1 *ℤ (get_or ρ i (pos 0) *ℤ pos 1)) ∙ mul-one_left (get_or ρ i (pos 0) *ℤ pos 1) ∙ mul-one_right (get_or ρ i (pos 0))
+value-normal ρ (var i) =
+    add-zero_right (pos 1 *ℤ (get_or ρ i (pos 0) *ℤ pos 1)) ∙ mul-one_left (get_or ρ i (pos 0) *ℤ pos 1) ∙ mul-one_right (get_or ρ i (pos 0))
 value-normal ρ (con c) = value-put ρ c [] none ∙ add-zero_right (c *ℤ pos 1) ∙ mul-one_right c
-value-normal ρ (a ⊕ b) = value-add ρ (normal a) (normal b) ∙ ap (λ w. w +ℤ value_of ρ (normal b)) (value-normal ρ a) ∙ ap (λ w. value ρ a +ℤ w) (value-normal ρ b)
+value-normal ρ (a ⊕ b) =
+    value-add ρ (normal a) (normal b) ∙ ap (λ w. w +ℤ value_of ρ (normal b)) (value-normal ρ a) ∙ ap (λ w. value ρ a +ℤ w) (value-normal ρ b)
 value-normal ρ (a ⊖ b) =
     value-add ρ (normal a) (mul_term (negsuc 0) [] (normal b)) ∙ ap (λ w. w +ℤ value_of ρ (mul_term (negsuc 0) [] (normal b))) (value-normal ρ a)
     ∙ ap (λ w. value ρ a +ℤ w) (value-negated ρ (normal b)) ∙ ap (λ w. value ρ a -ℤ w) (value-normal ρ b)
-value-normal ρ (a ⊗ b) = value-mul ρ (normal a) (normal b) ∙ ap (λ w. w *ℤ value_of ρ (normal b)) (value-normal ρ a) ∙ ap (λ w. value ρ a *ℤ w) (value-normal ρ b)
+value-normal ρ (a ⊗ b) =
+    value-mul ρ (normal a) (normal b) ∙ ap (λ w. w *ℤ value_of ρ (normal b)) (value-normal ρ a) ∙ ap (λ w. value ρ a *ℤ w) (value-normal ρ b)
 value-normal ρ (neg a) = value-negated ρ (normal a) ∙ ap neg_ℤ (value-normal ρ a)
 
 -- two expressions with one form have one value

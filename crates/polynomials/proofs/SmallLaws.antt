@@ -1,5 +1,6 @@
 -- Sums and products of bounded whole numbers are bounded, and what is bounded fits its machine type and is read back from it.
-use Rattle.std.proofs.Common.{refl, ◌≢◌, w32, set, below_more, get_or-set_same, get_or-set_other, zero, suc, [], ◌∷◌, ◌≡◌, ◌∙◌, ap, length, List, get_or, to_z, of_z, ℕ, ℤ, pos, ◌+◌, ◌*◌, ◌^◌, ◌<◌, ◌≤◌, ◌+ℤ◌, ◌-ℤ◌, ◌*ℤ◌, neg_ℤ, arith, FitsSigned, w64, subst, sym}
+use Rattle.std.proofs.Common.{refl, ◌≢◌, w32, set, below_more, get_or-set_same, get_or-set_other, zero, suc, [], ◌∷◌, ◌≡◌, ◌∙◌, ap, length, List}
+use Rattle.std.proofs.Common.{get_or, to_z, of_z, ℕ, ℤ, pos, ◌+◌, ◌*◌, ◌^◌, ◌<◌, ◌≤◌, ◌+ℤ◌, ◌-ℤ◌, ◌*ℤ◌, neg_ℤ, arith, FitsSigned, w64, subst, sym}
 use Rattle.std.proofs.lemmas.Int.{ints, to_z-of_z, fits_signed_from_abs, unsigned_abs-mul}
 use Rattle.std.proofs.Math.Nat.{mul-le-mul}
 use Rattle.polynomials.specs.Small.{IsSmall, AreSmall}
@@ -11,9 +12,6 @@ small-add m n x y p q = omega (arith, ints)
 
 pub small-sub : (m n : ℕ) (x y : ℤ) → IsSmall m x → IsSmall n y → IsSmall (m + n) (x -ℤ y)
 small-sub m n x y p q = omega (arith, ints)
-
-pub small-neg : (m : ℕ) (x : ℤ) → IsSmall m x → IsSmall m (neg_ℤ x)
-small-neg m x p = omega (arith, ints)
 
 pub small-mul : (m n : ℕ) (x y : ℤ) → IsSmall m x → IsSmall n y → IsSmall (m * n) (x *ℤ y)
 small-mul m n x y p q = subst (λ (k : ℕ). k ≤ m * n) (sym (unsigned_abs-mul x y)) (mul-le-mul p q)
@@ -40,16 +38,14 @@ negated_back n x q h =
     ∙ small-back n (pos 0 -ℤ x) q (omega (arith, ints)) ∙ omega (arith, ints)
 
 -- and the difference of two
-pub difference_back : (m n : ℕ) (x y : ℤ) → m + n < 2 ^ 63 → IsSmall m x → IsSmall n y → to_z w64 (of_z w64 (to_z w64 (of_z w64 x) -ℤ to_z w64 (of_z w64 y))) ≡ x -ℤ y
+pub difference_back : (m n : ℕ) (x y : ℤ) → m + n < 2 ^ 63 → IsSmall m x → IsSmall n y
+    → to_z w64 (of_z w64 (to_z w64 (of_z w64 x) -ℤ to_z w64 (of_z w64 y))) ≡ x -ℤ y
 difference_back m n x y f p q =
     ap (λ (z : ℤ). to_z w64 (of_z w64 (z -ℤ to_z w64 (of_z w64 y)))) (small-back m x (omega arith) p)
     ∙ ap (λ (z : ℤ). to_z w64 (of_z w64 (x -ℤ z))) (small-back n y (omega arith) q)
     ∙ small-back (m + n) (x -ℤ y) f (small-sub m n x y p q)
 
 -- ---- each number of a list
-
-pub AreSmall-weaken : (m n : ℕ) (xs : List ℤ) → m ≤ n → AreSmall m xs → AreSmall n xs
-AreSmall-weaken m n xs p h k d q = let s : IsSmall m (get_or xs k d) = h k d q in omega arith
 
 pub AreSmall-cons : (m : ℕ) (x : ℤ) (xs : List ℤ) → IsSmall m x → AreSmall m xs → AreSmall m (x ∷ xs)
 AreSmall-cons m x xs p h zero d q = p

@@ -1,29 +1,29 @@
 -- A chain of sets is its first set with a descent from there, and its first vertices ascend.
-use Rattle.std.specs.Prelude.{◌≡◌, ◌≢◌, ◌<◌, ◌≤◌, ◌+◌, ◌-◌, ℕ, zero, suc, Bool, true, false, nat_le, List, [], ◌∷◌, map, filter, length, slice_index_or, Contains, if◌then◌else◌}
+use Rattle.std.specs.Prelude.{◌≡◌, ◌≢◌, ◌<◌, ◌≤◌, ◌+◌, ◌-◌, ℕ, zero, suc, Bool, true, false, nat_le, List, [], ◌∷◌, map, filter, length}
+use Rattle.std.specs.Prelude.{slice_index_or, Contains, if◌then◌else◌}
 use Rattle.std.specs.List.{AllAdjacentBelow}
 use Rattle.std.proofs.Common.{refl, sym, ap, ◌∙◌, subst, arith, inl, inr}
 use Rattle.std.proofs.lemmas.Bool.Decides.{nat_tests}
-use Rattle.iso_model.specs.Orders.{has, put_in, sorted}
+use Rattle.lists.specs.Orders.{has, put_in, sorted}
 use Rattle.iso_model.specs.Hulls.{IsFaceOf, IsChain, IsPulled, first_vertex}
-use Rattle.iso_model.proofs.FaceLaws.{Contains-head, Contains-split, Contains-filter}
-use Rattle.iso_model.proofs.FixedLists.{AscendsBy}
 use Rattle.pulling_tri.specs.Pulling.{IsNext, IsDescent, GoesOn}
+use Rattle.lists.specs.Members.{AscendsBy}
+use Rattle.lists.proofs.Contained.{Contains-head, Contains-split, Contains-filter}
+use Rattle.lists.proofs.Orderings.{steps_tail}
+use Rattle.lists.proofs.Tests.{next_place}
+use Rattle.lists.proofs.MemberLaws.{length_map}
 
 -- ---- chains
 
-next_place : (k : ℕ) → suc (k + 1) ≡ suc k + 1
-next_place k = omega arith
-
-steps_tail : {X : Type 0} (R : X → X → Type 0) (x : X) (xs : List X) → AllAdjacentBelow R (x ∷ xs) (length (x ∷ xs)) → AllAdjacentBelow R xs (length xs)
-steps_tail R x xs a = λ k d h. subst (λ (n : ℕ). R (slice_index_or xs k d) (slice_index_or (x ∷ xs) n d)) (sym (next_place k)) (a (suc k) d (omega (arith, h)))
-
-steps_more : {X : Type 0} (R : X → X → Type 0) (x y : X) (xs : List X) → R x y → AllAdjacentBelow R (y ∷ xs) (length (y ∷ xs)) → AllAdjacentBelow R (x ∷ y ∷ xs) (length (x ∷ y ∷ xs))
+steps_more : {X : Type 0} (R : X → X → Type 0) (x y : X) (xs : List X) → R x y → AllAdjacentBelow R (y ∷ xs) (length (y ∷ xs))
+    → AllAdjacentBelow R (x ∷ y ∷ xs) (length (x ∷ y ∷ xs))
 steps_more R x y xs r a zero d h = r
 steps_more R x y xs r a (suc k) d h =
     subst (λ (n : ℕ). R (slice_index_or (y ∷ xs) k d) (slice_index_or (x ∷ y ∷ xs) n d)) (next_place k) (a k d (omega (arith, h)))
 
 -- the last set of a chain
-last_is : (set face : List ℕ) (chain : List (List ℕ)) → slice_index_or (set ∷ face ∷ chain) (length (set ∷ face ∷ chain) - 1) [] ≡ slice_index_or (face ∷ chain) (length (face ∷ chain) - 1) []
+last_is : (set face : List ℕ) (chain : List (List ℕ))
+    → slice_index_or (set ∷ face ∷ chain) (length (set ∷ face ∷ chain) - 1) [] ≡ slice_index_or (face ∷ chain) (length (face ∷ chain) - 1) []
 last_is set face chain =
     let a : length (set ∷ face ∷ chain) - 1 ≡ suc (length chain) = omega arith in
     let b : length (face ∷ chain) - 1 ≡ length chain = omega arith in
@@ -32,19 +32,24 @@ last_is set face chain =
 descent_of : (Facet : List ℕ → Type 0) (set : List ℕ) (chain : List (List ℕ)) → length (slice_index_or (set ∷ chain) (length (set ∷ chain) - 1) []) ≡ 1
     → AllAdjacentBelow (IsNext Facet) (set ∷ chain) (length (set ∷ chain)) → IsDescent Facet set chain
 descent_of Facet set [] point down = point
-descent_of Facet set (face ∷ chain) point down =
-    (down 0 [] (omega arith), descent_of Facet face chain (ap length (sym (last_is set face chain)) ∙ point) (steps_tail (IsNext Facet) set (face ∷ chain) down))
+descent_of Facet set (face ∷ chain) point down = (
+  down 0 [] (omega arith),
+  descent_of Facet face chain (ap length (sym (last_is set face chain)) ∙ point) (steps_tail (IsNext Facet) set (face ∷ chain) down),
+)
 
-point_of : (Facet : List ℕ → Type 0) (set : List ℕ) (chain : List (List ℕ)) → IsDescent Facet set chain → length (slice_index_or (set ∷ chain) (length (set ∷ chain) - 1) []) ≡ 1
+point_of : (Facet : List ℕ → Type 0) (set : List ℕ) (chain : List (List ℕ)) → IsDescent Facet set chain
+    → length (slice_index_or (set ∷ chain) (length (set ∷ chain) - 1) []) ≡ 1
 point_of Facet set [] h = h
 point_of Facet set (face ∷ chain) h = ap length (last_is set face chain) ∙ point_of Facet face chain h.1
 
-down_of : (Facet : List ℕ → Type 0) (set : List ℕ) (chain : List (List ℕ)) → IsDescent Facet set chain → AllAdjacentBelow (IsNext Facet) (set ∷ chain) (length (set ∷ chain))
+down_of : (Facet : List ℕ → Type 0) (set : List ℕ) (chain : List (List ℕ)) → IsDescent Facet set chain
+    → AllAdjacentBelow (IsNext Facet) (set ∷ chain) (length (set ∷ chain))
 down_of Facet set [] h = λ k d l. absurd (omega (arith, l))
 down_of Facet set (face ∷ chain) h = steps_more (IsNext Facet) set face chain h.0 (down_of Facet face chain h.1)
 
 -- a chain of d sets is its first set, and a descent from there
-pub chain_of : (Facet : List ℕ → Type 0) (d : ℕ) (set : List ℕ) (chain : List (List ℕ)) → IsDescent Facet set chain → length chain + 1 ≡ d → IsChain Facet d set (set ∷ chain)
+pub chain_of : (Facet : List ℕ → Type 0) (d : ℕ) (set : List ℕ) (chain : List (List ℕ)) → IsDescent Facet set chain → length chain + 1 ≡ d
+    → IsChain Facet d set (set ∷ chain)
 chain_of Facet d set chain h l = record {
   sets = omega arith;
   top = refl;
@@ -52,7 +57,8 @@ chain_of Facet d set chain h l = record {
   down = down_of Facet set chain h;
 }
 
-pub descent_from : (Facet : List ℕ → Type 0) (d : ℕ) (set simplex : List ℕ) (chain : List (List ℕ)) → IsChain Facet d set chain → simplex ≡ sorted (map first_vertex chain)
+pub descent_from : (Facet : List ℕ → Type 0) (d : ℕ) (set simplex : List ℕ) (chain : List (List ℕ)) → IsChain Facet d set chain
+    → simplex ≡ sorted (map first_vertex chain)
     → (rest : List (List ℕ)) × IsDescent Facet set rest × (length rest + 1 ≡ d) × (simplex ≡ sorted (map first_vertex (set ∷ rest)))
 descent_from Facet d set simplex [] c e = absurd (let p : 0 ≡ 1 = c.point in omega arith)
 descent_from Facet d set simplex (top ∷ rest) c e =
@@ -102,24 +108,23 @@ face_ascends Facet set face f a = subst Ascends (sym f.proper.2) (filter_ascends
 face_part : (Facet : List ℕ → Type 0) (set face : List ℕ) (x : ℕ) → IsFaceOf Facet set face → Contains face x → Contains set x
 face_part Facet set face x f c = Contains-filter (has f.proper.0) set x (subst (λ (s : List ℕ). Contains s x) f.proper.2 c)
 
-firsts_rise : (Facet : List ℕ → Type 0) (set face : List ℕ) (chain : List (List ℕ)) → IsFaceOf Facet set face → IsDescent Facet face chain → Ascends set → first_vertex set ≤ first_vertex face
-firsts_rise Facet set face chain f h a = least_first set (first_vertex face) a (face_part Facet set face (first_vertex face) f (first_there face (descent_some Facet face chain h)))
+firsts_rise : (Facet : List ℕ → Type 0) (set face : List ℕ) (chain : List (List ℕ)) → IsFaceOf Facet set face → IsDescent Facet face chain
+    → Ascends set → first_vertex set ≤ first_vertex face
+firsts_rise Facet set face chain f h a =
+    least_first set (first_vertex face) a (face_part Facet set face (first_vertex face) f (first_there face (descent_some Facet face chain h)))
 
 put_first : (x y : ℕ) (ys : List ℕ) → x ≤ y → put_in x (y ∷ ys) ≡ x ∷ y ∷ ys
 put_first x y ys h = let e : nat_le x y ≡ true = grind (arith, nat_tests) in ap (λ (b : Bool). if b then x ∷ y ∷ ys else y ∷ put_in x ys) e
 
 -- the first vertices along a descent stand in ascending order
-pub firsts_sorted : (Facet : List ℕ → Type 0) (set : List ℕ) (chain : List (List ℕ)) → IsDescent Facet set chain → Ascends set → sorted (map first_vertex (set ∷ chain)) ≡ map first_vertex (set ∷ chain)
+pub firsts_sorted : (Facet : List ℕ → Type 0) (set : List ℕ) (chain : List (List ℕ)) → IsDescent Facet set chain → Ascends set
+    → sorted (map first_vertex (set ∷ chain)) ≡ map first_vertex (set ∷ chain)
 firsts_sorted Facet set [] h a = refl
 firsts_sorted Facet set (face ∷ chain) h a =
     ap (put_in (first_vertex set)) (firsts_sorted Facet face chain h.1 (face_ascends Facet set face h.0.0 a))
     ∙ put_first (first_vertex set) (first_vertex face) (map first_vertex chain) (firsts_rise Facet set face chain h.0.0 h.1 a)
 
 -- ---- whole chains, and chains that go on
-
-length_map : {X Y : Type 0} (f : X → Y) (xs : List X) → length (map f xs) ≡ length xs
-length_map f [] = refl
-length_map f (x ∷ xs) = ap suc (length_map f xs)
 
 pub pulled_goes_on : (Facet : List ℕ → Type 0) (d : ℕ) (set simplex : List ℕ) → Ascends set → IsPulled Facet d set simplex → GoesOn Facet d [] set simplex
 pulled_goes_on Facet d set simplex a p =

@@ -1,68 +1,48 @@
 -- The maximal ones of the meets of a set, as numbers, are its faces.
-use Rattle.std.specs.Prelude.{◌≡◌, ◌≢◌, ◌<◌, ◌^◌, ◌==◌, ◌||◌, ◌&&◌, not, ℕ, Bool, true, false, nat_eq, List, [], ◌∷◌, map, Contains, bit_and, IsPermutation}
+use Rattle.std.specs.Prelude.{◌≡◌, ◌<◌, ◌^◌, ◌==◌, ◌||◌, ◌&&◌, not, ℕ, Bool, true, false, nat_eq, List, map, Contains, bit_and, IsPermutation}
 use Rattle.std.specs.Bool.{Decides}
 use Rattle.std.specs.Int.{bit_at}
 use Rattle.std.specs.List.{dedup}
-use Rattle.std.proofs.Common.{refl, sym, ap, ◌∙◌, subst, arith, inl, inr}
-use Rattle.std.proofs.lemmas.Bool.{false≢true}
+use Rattle.std.proofs.Common.{refl, sym, ap, ◌∙◌, subst, arith}
+use Rattle.std.proofs.lemmas.Bool.{false≢true, and_from, and_parts}
 use Rattle.std.proofs.lemmas.Bool.Decides.{nat_tests}
 use Rattle.std.proofs.lemmas.List.Kept.{Contains-dedup_nat, Contains-from_dedup}
 use Rattle.std.proofs.lemmas.List.Sorted.{Contains-permutation, IsPermutation-sym}
 use Rattle.std.proofs.lemmas.Nat.{and_le_l}
-use Rattle.iso_model.specs.Orders.{has}
+use Rattle.lists.specs.Orders.{has}
 use Rattle.iso_model.specs.Hulls.{meet, IsProperMeet, IsFaceOf, LiesWithin, first_vertex}
-use Rattle.iso_model.proofs.Deciding.{Decides-each, both, equal_of, of_equal}
-use Rattle.iso_model.proofs.FaceLaws.{Contains-head, Contains-tail, Contains-split, Contains-filter}
 use Rattle.pulling_tri.specs.Meets.{IsMeet, AreMeets, meets_in_turn, is_greatest, maximal_without}
 use Rattle.pulling_tri.specs.PointSets.{point_set}
 use Rattle.pulling_tri.specs.Pulling.{IsNext, AreNext}
 use Rattle.pulling_tri.proofs.PointSetLaws.{points-has, points-meet, points-same, points-within, within-points}
-use Rattle.pulling_tri.proofs.SetBits.{kept_by, kept_passes}
+use Rattle.pulling_tri.proofs.SetBits.{kept_by}
+use Rattle.lists.proofs.Tests.{equal_of, of_equal, test_differ, differ_test}
+use Rattle.lists.proofs.Contained.{Contains-filter, Decides-each, Contains-mapped, from_Contains-map}
+use Rattle.lists.proofs.Contained.{Contains-passes}
 
 -- ---- members of a list that is mapped
 
-pub map_there : {X Y : Type 0} (f : X → Y) (xs : List X) (x : X) → Contains xs x → Contains (map f xs) (f x)
-map_there f [] x c = absurd (let h : c.0 < 0 = c.1 in omega arith)
-map_there {X} {Y} f (z ∷ xs) x c = elim (Contains-split x z xs c) as (λ _. Contains (f z ∷ map f xs) (f x)) [
-  | inl e ↦ subst (λ (y : X). Contains (f z ∷ map f xs) (f y)) e (Contains-head (f z) (map f xs))
-  | inr m ↦ Contains-tail (f x) (f z) (map f xs) (map_there f xs x m)
-]
-
-pub map_back : {X Y : Type 0} (f : X → Y) (xs : List X) (y : Y) → Contains (map f xs) y → (x : X) × Contains xs x × (f x ≡ y)
-map_back f [] y c = absurd (let h : c.0 < 0 = c.1 in omega arith)
-map_back {X} {Y} f (z ∷ xs) y c = elim (Contains-split y (f z) (map f xs) c) as (λ _. (x : X) × Contains (z ∷ xs) x × (f x ≡ y)) [
-  | inl e ↦ (z, Contains-head z xs, e)
-  | inr m ↦ let r = map_back f xs y m in (r.0, Contains-tail r.0 z xs r.1, r.2)
-]
-
 -- ---- the proper meets
-
-not_same : (a b : ℕ) → not (a == b) ≡ true → a ≢ b
-not_same a b t e = false≢true (sym (ap not (of_equal a b e)) ∙ t)
-
-same_not : (a b : ℕ) → a ≢ b → not (a == b) ≡ true
-same_not a b n = by_test (a == b) refl
-  where
-    by_test : (t : Bool) → (a == b) ≡ t → not t ≡ true
-    by_test true e = absurd (n (equal_of a b e))
-    by_test false e = refl
 
 in_turn : (facets : List ℕ) (set m : ℕ) → Contains (meets_in_turn facets set) m → IsMeet facets set m
 in_turn facets set m c =
-    let t = kept_passes (λ k. not (k == set)) (map (λ f. bit_and set f) facets) m c in
-    let r = map_back (λ f. bit_and set f) facets m (Contains-filter (λ k. not (k == set)) (map (λ f. bit_and set f) facets) m c) in
-    (r.0, r.1, sym r.2, not_same m set t)
+    let t = Contains-passes (λ k. not (k == set)) (map (λ f. bit_and set f) facets) m c in
+    let r = from_Contains-map (λ f. bit_and set f) facets m (Contains-filter (λ k. not (k == set)) (map (λ f. bit_and set f) facets) m c) in
+    (r.0, r.1, sym r.2, differ_test m set t)
 
 turn_has : (facets : List ℕ) (set m : ℕ) → IsMeet facets set m → Contains (meets_in_turn facets set) m
 turn_has facets set m h =
     kept_by (λ k. not (k == set)) (map (λ f. bit_and set f) facets) m
-    (subst (λ (k : ℕ). Contains (map (λ f. bit_and set f) facets) k) (sym h.2) (map_there (λ f. bit_and set f) facets h.0 h.1)) (same_not m set h.3)
+    (subst (λ (k : ℕ). Contains (map (λ f. bit_and set f) facets) k) (sym h.2) (Contains-mapped (λ f. bit_and set f) facets h.0 h.1)) (test_differ m set h.3)
 
-pub meets_once : (facets : List ℕ) (set : ℕ) (found moved kept : List ℕ) → found ≡ meets_in_turn facets set → IsPermutation found moved → kept ≡ dedup nat_eq moved → AreMeets facets set kept
+pub meets_once : (facets : List ℕ) (set : ℕ) (found moved kept : List ℕ) → found ≡ meets_in_turn facets set → IsPermutation found moved
+    → kept ≡ dedup nat_eq moved → AreMeets facets set kept
 meets_once facets set found moved kept e p k = λ m. (
   λ c. in_turn facets set m (subst (λ (s : List ℕ). Contains s m) e (Contains-permutation moved found m (IsPermutation-sym found moved p)
       (Contains-from_dedup nat_eq moved m (subst (λ (s : List ℕ). Contains s m) k c)))),
-  λ h. subst (λ (s : List ℕ). Contains s m) (sym k) (Contains-dedup_nat moved m (Contains-permutation found moved m p (subst (λ (s : List ℕ). Contains s m) (sym e) (turn_has facets set m h)))),
+  λ h.
+      subst (λ (s : List ℕ). Contains s m) (sym k)
+      (Contains-dedup_nat moved m (Contains-permutation found moved m p (subst (λ (s : List ℕ). Contains s m) (sym e) (turn_has facets set m h)))),
 )
 
 -- ---- the greatest ones
@@ -89,7 +69,7 @@ small_meet set f m h e = let l = and_le_l set f in omega arith
 proper_of : (facets : List ℕ) (set m : ℕ) → set < 2 ^ 64 → IsMeet facets set m → IsProperMeet (Facets facets) (point_set set) (point_set m)
 proper_of facets set m h i = (
   point_set i.0,
-  map_there point_set facets i.0 i.1,
+  Contains-mapped point_set facets i.0 i.1,
   ap point_set i.2 ∙ points-meet set i.0,
   λ e. i.3 (points-same m set (small_meet set i.0 m h i.2) h e),
 )
@@ -100,7 +80,7 @@ MeetNumber facets set other = (m : ℕ) × IsMeet facets set m × (point_set m �
 
 of_proper : (facets : List ℕ) (set : ℕ) (other : List ℕ) → IsProperMeet (Facets facets) (point_set set) other → MeetNumber facets set other
 of_proper facets set other p =
-    let r = map_back point_set facets p.0 p.1 in
+    let r = from_Contains-map point_set facets p.0 p.1 in
     let e : point_set (bit_and set r.0) ≡ other = points-meet set r.0 ∙ ap (meet (point_set set)) r.2 ∙ sym p.2 in
     (bit_and set r.0, (r.0, r.1, refl, λ s. p.3 (sym e ∙ ap point_set s)), e)
 
@@ -115,10 +95,8 @@ zero_bit n i h e =
     let l : bit_at n i < 2 = omega arith in
     grind (arith, nat_tests)
 
-pass_both : (a b : Bool) → a ≡ true → b ≡ true → (a && b) ≡ true
-pass_both a b e f = ap (λ (t : Bool). t && b) e ∙ f
-
-face_of_number : (facets : List ℕ) (set : ℕ) (meets : List ℕ) (m : ℕ) → set < 2 ^ 64 → AreMeets facets set meets → Contains meets m → is_greatest meets m ≡ true → IsFaceOf (Facets facets) (point_set set) (point_set m)
+face_of_number : (facets : List ℕ) (set : ℕ) (meets : List ℕ) (m : ℕ) → set < 2 ^ 64 → AreMeets facets set meets → Contains meets m
+    → is_greatest meets m ≡ true → IsFaceOf (Facets facets) (point_set set) (point_set m)
 face_of_number facets set meets m h are c g =
     let i = (are m).0 c in
     record {
@@ -129,21 +107,23 @@ face_of_number facets set meets m h are c g =
           sym r.2 ∙ ap point_set ((greatest_decides meets m).0 g r.0 ((are r.0).1 r.1) inside);
     }
 
-number_of_face : (facets : List ℕ) (set : ℕ) (meets : List ℕ) (m : ℕ) → set < 2 ^ 64 → AreMeets facets set meets → IsMeet facets set m → IsFaceOf (Facets facets) (point_set set) (point_set m) → is_greatest meets m ≡ true
+number_of_face : (facets : List ℕ) (set : ℕ) (meets : List ℕ) (m : ℕ) → set < 2 ^ 64 → AreMeets facets set meets → IsMeet facets set m
+    → IsFaceOf (Facets facets) (point_set set) (point_set m) → is_greatest meets m ≡ true
 number_of_face facets set meets m h are i f = (greatest_decides meets m).1 (λ k c e.
     let j = (are k).0 c in
     points-same k m (small_meet set j.0 k h j.2) (small_meet set i.0 m h i.2) (f.maximal (point_set k) (proper_of facets set k h j) (points-within m k e)))
 
 -- the maximal meets that miss the first vertex are the sets that may stand next
-pub next_sets : (facets : List ℕ) (set : ℕ) (meets faces : List ℕ) (first : ℕ) → set < 2 ^ 64 → first < 64 → first ≡ first_vertex (point_set set) → AreMeets facets set meets → faces ≡ maximal_without meets first
+pub next_sets : (facets : List ℕ) (set : ℕ) (meets faces : List ℕ) (first : ℕ) → set < 2 ^ 64 → first < 64 → first ≡ first_vertex (point_set set)
+    → AreMeets facets set meets → faces ≡ maximal_without meets first
     → AreNext (Contains (map point_set facets)) (point_set set) (map point_set faces)
 next_sets facets set meets faces first h b v are e = λ face. (λ c. there face c, λ n. back face n)
   where
     there : (face : List ℕ) → Contains (map point_set faces) face → IsNext (Facets facets) (point_set set) face
     there face c =
-        let r = map_back point_set faces face c in
+        let r = from_Contains-map point_set faces face c in
         let k = subst (λ (s : List ℕ). Contains s r.0) e r.1 in
-        let t = both (bit_at r.0 first == 0) (is_greatest meets r.0) (kept_passes (λ m. (bit_at m first == 0) && is_greatest meets m) meets r.0 k) in
+        let t = and_parts (bit_at r.0 first == 0) (is_greatest meets r.0) (Contains-passes (λ m. (bit_at m first == 0) && is_greatest meets m) meets r.0 k) in
         let m = Contains-filter (λ m. (bit_at m first == 0) && is_greatest meets m) meets r.0 k in
         subst (λ (s : List ℕ). IsNext (Facets facets) (point_set set) s) r.2
         (face_of_number facets set meets r.0 h are m t.1, ap (has (point_set r.0)) (sym v) ∙ bit_zero r.0 first b t.0)
@@ -155,5 +135,6 @@ next_sets facets set meets faces first h b v are e = λ face. (λ c. there face 
         let z = zero_bit r.0 first b (ap (has (point_set r.0)) v ∙ f.1) in
         let g = number_of_face facets set meets r.0 h are r.1 f.0 in
         subst (λ (s : List ℕ). Contains (map point_set faces) s) r.2
-        (map_there point_set faces r.0 (subst (λ (s : List ℕ). Contains s r.0) (sym e)
-        (kept_by (λ m. (bit_at m first == 0) && is_greatest meets m) meets r.0 ((are r.0).1 r.1) (pass_both (bit_at r.0 first == 0) (is_greatest meets r.0) z g))))
+        (Contains-mapped point_set faces r.0 (subst (λ (s : List ℕ). Contains s r.0) (sym e)
+        (kept_by (λ m. (bit_at m first == 0) && is_greatest meets m) meets r.0 ((are r.0).1 r.1)
+        (and_from (bit_at r.0 first == 0) (is_greatest meets r.0) z g))))

@@ -4,4 +4,4 @@ pub mod Descents
 pub mod FaceSets
 pub mod PointSetLaws
 pub mod SetBits
-pub mod Tuples
+pub mod PulledTuples

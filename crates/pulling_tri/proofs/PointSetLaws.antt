@@ -1,15 +1,16 @@
 -- The set of a number, without looking into it.
 use Rattle.std.specs.Prelude.{◌≡◌, ◌<◌, ◌*◌, ◌%◌, ◌^◌, ◌==◌, ℕ, [], length, bit_and}
 use Rattle.std.specs.Int.{bit_at, trailing_zeros, w64}
-use Rattle.std.proofs.Common.{refl, sym, ap, ◌∙◌, arith}
+use Rattle.std.proofs.Common.{refl, sym, ◌∙◌}
 use Rattle.std.proofs.lemmas.Nat.Bits.{bit_at-trailing_zeros}
 use Rattle.std.proofs.Math.Pow.{pow-lt}
-use Rattle.std.proofs.Math.Nat.{mod-eq_of_lt}
-use Rattle.iso_model.specs.Orders.{has}
+use Rattle.lists.specs.Orders.{has}
 use Rattle.iso_model.specs.Hulls.{meet, first_vertex, LiesWithin}
 use Rattle.pulling_tri.specs.PointSets.{point_set}
 use Rattle.pulling_tri.proofs.ChainLaws.{Ascends}
-use Rattle.pulling_tri.proofs.SetBits.{has_is, set_of_meet, same_number, within_number, number_within, set_ascends, first_is_lowest, power_is_point, point_is_power}
+use Rattle.pulling_tri.proofs.SetBits.{has_is, set_of_meet, same_number, within_number, number_within, set_ascends, first_is_lowest, power_is_point}
+use Rattle.pulling_tri.proofs.SetBits.{point_is_power}
+use Rattle.lists.proofs.Bits.{shifted_one}
 
 pub points-has : (n i : ℕ) → i < 64 → has (point_set n) i ≡ (bit_at n i == 1)
 unfolding point_set
@@ -43,18 +44,12 @@ pub points-first : (n : ℕ) → 0 < n → n < 2 ^ 64 → trailing_zeros w64 n �
 unfolding point_set
 points-first n h k = first_is_lowest n h k
 
-shifted : (k : ℕ) → k < 64 → 1 * 2 ^ k % 2 ^ 64 ≡ 2 ^ k
-shifted k h =
-    let l : 2 ^ k < 2 ^ 64 = pow-lt h in
-    let e : 1 * 2 ^ k ≡ 2 ^ k = omega arith in
-    ap (λ (n : ℕ). n % 2 ^ 64) e ∙ mod-eq_of_lt l
-
 pub shift-point : (n : ℕ) → 0 < n → n < 2 ^ 64 → n ≡ 1 * 2 ^ trailing_zeros w64 n % 2 ^ 64 → length (point_set n) ≡ 1
 unfolding point_set
-shift-point n h k e = power_is_point n h k (e ∙ shifted (trailing_zeros w64 n) (bit_at-trailing_zeros w64 n h k).0)
+shift-point n h k e = power_is_point n h k (e ∙ shifted_one (trailing_zeros w64 n) (bit_at-trailing_zeros w64 n h k).0)
 
 pub point-shift : (n : ℕ) → 0 < n → n < 2 ^ 64 → length (point_set n) ≡ 1 → n ≡ 1 * 2 ^ trailing_zeros w64 n % 2 ^ 64
 unfolding point_set
 point-shift n h k l =
     let t = (bit_at-trailing_zeros w64 n h k).0 in
-    point_is_power n h k (pow-lt t) l ∙ sym (shifted (trailing_zeros w64 n) t)
+    point_is_power n h k (pow-lt t) l ∙ sym (shifted_one (trailing_zeros w64 n) t)

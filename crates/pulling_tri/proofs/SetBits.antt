@@ -1,18 +1,22 @@
 -- Sets of points as numbers: the members of a number's set are the places of its bits.
-use Rattle.std.specs.Prelude.{◌≡◌, ◌≢◌, ◌⊎◌, ◌<◌, ◌≤◌, ◌+◌, ◌^◌, ◌==◌, ℕ, zero, suc, Bool, true, false, min, nat_eq, nat_lt, ◌&&◌, List, [], ◌∷◌, filter, length, Contains, if◌then◌else◌, bit_and}
+use Rattle.std.specs.Prelude.{◌≡◌, ◌≢◌, ◌⊎◌, ◌<◌, ◌≤◌, ◌+◌, ◌^◌, ◌==◌, ℕ, zero, suc, Bool, true, false, min, nat_eq, nat_lt, ◌&&◌, List, [], ◌∷◌}
+use Rattle.std.specs.Prelude.{filter, length, Contains, if◌then◌else◌, bit_and}
 use Rattle.std.specs.Int.{bit_at, trailing_zeros, w64}
 use Rattle.std.specs.List.{range_with_len}
 use Rattle.std.proofs.Common.{refl, sym, ap, ◌∙◌, subst, arith, inl, inr}
 use Rattle.std.proofs.lemmas.Bool.{false≢true}
 use Rattle.std.proofs.lemmas.Bool.Decides.{nat_tests}
-use Rattle.std.proofs.lemmas.List.Folds.{Any-from_list_any, list_any-from_Any}
 use Rattle.std.proofs.lemmas.Nat.{and_le_l}
 use Rattle.std.proofs.lemmas.Nat.Bits.{bit_at_and, bit_at-lt, bit_at-pow_same, bit_at-pow_other, bit_at-trailing_zeros, same_from_bits_below}
-use Rattle.iso_model.specs.Orders.{numbers, has}
-use Rattle.iso_model.specs.Hulls.{meet, set_of, first_vertex, LiesWithin}
-use Rattle.iso_model.proofs.Deciding.{below_contained, contained_below, of_equal, equal_of}
-use Rattle.iso_model.proofs.FaceLaws.{Contains-head, Contains-tail, Contains-split, Contains-filter}
+use Rattle.lists.specs.Orders.{numbers, has}
+use Rattle.iso_model.specs.Hulls.{meet, first_vertex, LiesWithin}
 use Rattle.pulling_tri.proofs.ChainLaws.{Ascends, least_first, first_there, filter_ascends}
+use Rattle.lists.specs.Bits.{set_of}
+use Rattle.lists.proofs.Tests.{equal_of, of_equal, same_tests}
+use Rattle.lists.proofs.Contained.{Contains-head, Contains-tail, Contains-split, below_contained, contained_below, Contains-passes}
+use Rattle.lists.proofs.Contained.{filter-same}
+use Rattle.lists.proofs.Bits.{same_bit}
+use Rattle.lists.proofs.MemberLaws.{has_contains, contains_has}
 
 -- ---- lists that are filtered
 
@@ -20,67 +24,34 @@ pub kept_by : {X : Type 0} (p : X → Bool) (xs : List X) (x : X) → Contains x
 kept_by p [] x c e = absurd (let h : c.0 < 0 = c.1 in omega arith)
 kept_by {X} p (y ∷ xs) x c e = by_test (λ m. kept_by p xs x m e) (p y) refl (Contains-split x y xs c)
   where
-    by_test : (Contains xs x → Contains (filter p xs) x) → (b : Bool) → p y ≡ b → (y ≡ x) ⊎ Contains xs x → Contains (if b then y ∷ filter p xs else filter p xs) x
+    by_test : (Contains xs x → Contains (filter p xs) x) → (b : Bool) → p y ≡ b → (y ≡ x) ⊎ Contains xs x
+        → Contains (if b then y ∷ filter p xs else filter p xs) x
     by_test behind true t (inl s) = subst (λ (z : X). Contains (y ∷ filter p xs) z) s (Contains-head y (filter p xs))
     by_test behind true t (inr m) = Contains-tail x y (filter p xs) (behind m)
     by_test behind false t (inl s) = absurd (false≢true (sym t ∙ subst (λ (z : X). p z ≡ true) (sym s) e))
     by_test behind false t (inr m) = behind m
 
-pub kept_passes : {X : Type 0} (p : X → Bool) (xs : List X) (x : X) → Contains (filter p xs) x → p x ≡ true
-kept_passes p [] x c = absurd (let h : c.0 < 0 = c.1 in omega arith)
-kept_passes {X} p (y ∷ xs) x c = by_test (λ m. kept_passes p xs x m) (p y) refl c
-  where
-    by_test : (Contains (filter p xs) x → p x ≡ true) → (b : Bool) → p y ≡ b → Contains (if b then y ∷ filter p xs else filter p xs) x → p x ≡ true
-    by_test behind true t m = elim (Contains-split x y (filter p xs) m) as (λ _. p x ≡ true) [
-      | inl s ↦ subst (λ (z : X). p z ≡ true) s t
-      | inr n ↦ behind n
-    ]
-    by_test behind false t m = behind m
-
-same_filter : {X : Type 0} (p q : X → Bool) (xs : List X) → ((x : X) → Contains xs x → p x ≡ q x) → filter p xs ≡ filter q xs
-same_filter p q [] h = refl
-same_filter {X} p q (x ∷ xs) h =
-    let e = same_filter p q xs (λ y c. h y (Contains-tail y x xs c)) in
-    let f = h x (Contains-head x xs) in
-    ap (λ (b : Bool). if b then x ∷ filter p xs else filter p xs) f ∙ ap (λ (ys : List X). if q x then x ∷ ys else ys) e
-
 filter_twice : {X : Type 0} (p q : X → Bool) (xs : List X) → filter q (filter p xs) ≡ filter (λ x. p x && q x) xs
 filter_twice p q [] = refl
-filter_twice {X} p q (x ∷ xs) = elim (p x) as (λ b. filter q (if b then x ∷ filter p xs else filter p xs) ≡ (if b && q x then x ∷ filter (λ y. p y && q y) xs else filter (λ y. p y && q y) xs)) [
-  | true ↦ ap (λ (ys : List X). if q x then x ∷ ys else ys) (filter_twice p q xs)
-  | false ↦ filter_twice p q xs
-]
+filter_twice {X} p q (x ∷ xs) = elim (p x) as
+    (λ b. filter q (if b then x ∷ filter p xs else filter p xs) ≡ (if b && q x then x ∷ filter (λ y. p y && q y) xs else filter (λ y. p y && q y) xs)) [
+      | true ↦ ap (λ (ys : List X). if q x then x ∷ ys else ys) (filter_twice p q xs)
+      | false ↦ filter_twice p q xs
+    ]
 
 -- ---- members
-
-pub has_member : (xs : List ℕ) (i : ℕ) → has xs i ≡ true → Contains xs i
-has_member xs i e =
-    let a = Any-from_list_any (nat_eq i) xs e in
-    let s : i ≡ a.1 = equal_of i a.1 a.4 in
-    subst (λ (k : ℕ). Contains xs k) (sym s) (a.0, a.2, a.3)
-
-pub member_has : (xs : List ℕ) (i : ℕ) → Contains xs i → has xs i ≡ true
-member_has xs i c = list_any-from_Any (nat_eq i) xs (c.0, i, c.1, c.2, of_equal i i refl)
 
 pub bit_member : (n i : ℕ) → i < 64 → bit_at n i ≡ 1 → Contains (set_of n) i
 bit_member n i h e = kept_by (λ k. bit_at n k == 1) (numbers 64) i (contained_below 64 i h) (of_equal (bit_at n i) 1 e)
 
 pub member_bit : (n i : ℕ) → Contains (set_of n) i → bit_at n i ≡ 1
-member_bit n i c = equal_of (bit_at n i) 1 (kept_passes (λ k. bit_at n k == 1) (numbers 64) i c)
-
-pub member_below : (n i : ℕ) → Contains (set_of n) i → i < 64
-member_below n i c = below_contained 64 i (Contains-filter (λ k. bit_at n k == 1) (numbers 64) i c)
-
-same_tests : (a b : Bool) → (a ≡ true → b ≡ true) → (b ≡ true → a ≡ true) → a ≡ b
-same_tests true b f g = sym (f refl)
-same_tests false true f g = g refl
-same_tests false false f g = refl
+member_bit n i c = equal_of (bit_at n i) 1 (Contains-passes (λ k. bit_at n k == 1) (numbers 64) i c)
 
 -- a place has a bit where it is a member
 pub has_is : (n i : ℕ) → i < 64 → has (set_of n) i ≡ (bit_at n i == 1)
 has_is n i h = same_tests (has (set_of n) i) (bit_at n i == 1)
-    (λ e. of_equal (bit_at n i) 1 (member_bit n i (has_member (set_of n) i e)))
-    (λ e. member_has (set_of n) i (bit_member n i h (equal_of (bit_at n i) 1 e)))
+    (λ e. of_equal (bit_at n i) 1 (member_bit n i (has_contains (set_of n) i e)))
+    (λ e. contains_has (set_of n) i (bit_member n i h (equal_of (bit_at n i) 1 e)))
 
 -- ---- the meet, and one set within another
 
@@ -90,22 +61,14 @@ both_bits a b m h k e = same_tests (a == 1 && b == 1) (m == 1) (λ t. grind (ari
 pub set_of_meet : (a b : ℕ) → set_of (bit_and a b) ≡ meet (set_of a) (set_of b)
 set_of_meet a b = sym (
     filter_twice (λ k. bit_at a k == 1) (has (set_of b)) (numbers 64)
-    ∙ same_filter (λ k. bit_at a k == 1 && has (set_of b) k) (λ k. bit_at (bit_and a b) k == 1) (numbers 64)
+    ∙ filter-same (λ k. bit_at a k == 1 && has (set_of b) k) (λ k. bit_at (bit_and a b) k == 1) (numbers 64)
     (λ k c. ap (λ (t : Bool). bit_at a k == 1 && t) (has_is b k (below_contained 64 k c))
     ∙ both_bits (bit_at a k) (bit_at b k) (bit_at (bit_and a b) k) (bit_at-lt a k) (bit_at-lt b k) (bit_at_and a b k)))
-
-bits_by_test : (a b : ℕ) → a < 2 → b < 2 → (a == 1) ≡ (b == 1) → a ≡ b
-bits_by_test zero zero h k e = refl
-bits_by_test zero (suc zero) h k e = absurd (false≢true e)
-bits_by_test (suc zero) zero h k e = absurd (false≢true (sym e))
-bits_by_test (suc zero) (suc zero) h k e = refl
-bits_by_test (suc (suc a)) b h k e = absurd (omega arith)
-bits_by_test a (suc (suc b)) h k e = absurd (omega arith)
 
 -- a number of 64 bits is fixed by its set
 pub same_number : (a b : ℕ) → a < 2 ^ 64 → b < 2 ^ 64 → set_of a ≡ set_of b → a ≡ b
 same_number a b h k e = same_from_bits_below 64 a b h k (λ i l.
-    bits_by_test (bit_at a i) (bit_at b i) (bit_at-lt a i) (bit_at-lt b i)
+    same_bit (bit_at a i) (bit_at b i) (bit_at-lt a i) (bit_at-lt b i)
     (sym (has_is a i l) ∙ ap (λ (s : List ℕ). has s i) e ∙ has_is b i l))
 
 pub within_number : (a b : ℕ) → bit_and a b ≡ a → LiesWithin (set_of a) (set_of b)
@@ -182,16 +145,21 @@ same_or_other i t = by_test (nat_eq i t) refl
     by_test false e = inr (λ s. grind (arith, nat_tests))
 
 pub power_is_point : (n : ℕ) → 0 < n → n < 2 ^ 64 → n ≡ 2 ^ trailing_zeros w64 n → length (set_of n) ≡ 1
-power_is_point n h k e = alone (set_of n) (trailing_zeros w64 n) (set_ascends n) (has_lowest n h k) (λ y c. by_place y (member_bit n y c) (same_or_other y (trailing_zeros w64 n)))
+power_is_point n h k e =
+    alone (set_of n) (trailing_zeros w64 n) (set_ascends n) (has_lowest n h k)
+    (λ y c. by_place y (member_bit n y c) (same_or_other y (trailing_zeros w64 n)))
   where
     by_place : (y : ℕ) → bit_at n y ≡ 1 → (y ≡ trailing_zeros w64 n) ⊎ (y ≢ trailing_zeros w64 n) → y ≡ trailing_zeros w64 n
     by_place y b (inl s) = s
     by_place y b (inr o) = absurd (let z = ap (λ (m : ℕ). bit_at m y) e ∙ bit_at-pow_other (trailing_zeros w64 n) y o in omega arith)
 
 pub point_is_power : (n : ℕ) → 0 < n → n < 2 ^ 64 → 2 ^ trailing_zeros w64 n < 2 ^ 64 → length (set_of n) ≡ 1 → n ≡ 2 ^ trailing_zeros w64 n
-point_is_power n h k p l = same_from_bits_below 64 n (2 ^ trailing_zeros w64 n) k p (λ i b. by_place i b (same_or_other i (trailing_zeros w64 n)) (zero_or_one (bit_at n i) (bit_at-lt n i)))
+point_is_power n h k p l =
+    same_from_bits_below 64 n (2 ^ trailing_zeros w64 n) k p
+    (λ i b. by_place i b (same_or_other i (trailing_zeros w64 n)) (zero_or_one (bit_at n i) (bit_at-lt n i)))
   where
-    by_place : (i : ℕ) → i < 64 → (i ≡ trailing_zeros w64 n) ⊎ (i ≢ trailing_zeros w64 n) → (bit_at n i ≡ 0) ⊎ (bit_at n i ≡ 1) → bit_at n i ≡ bit_at (2 ^ trailing_zeros w64 n) i
+    by_place : (i : ℕ) → i < 64 → (i ≡ trailing_zeros w64 n) ⊎ (i ≢ trailing_zeros w64 n) → (bit_at n i ≡ 0) ⊎ (bit_at n i ≡ 1)
+        → bit_at n i ≡ bit_at (2 ^ trailing_zeros w64 n) i
     by_place i b (inl s) v =
         ap (bit_at n) s ∙ (bit_at-trailing_zeros w64 n h k).1 ∙ sym (ap (bit_at (2 ^ trailing_zeros w64 n)) s ∙ bit_at-pow_same (trailing_zeros w64 n))
     by_place i b (inr o) (inl z) = z ∙ sym (bit_at-pow_other (trailing_zeros w64 n) i o)

@@ -1,6 +1,6 @@
 -- Pulled simplices by dimension: a chain of sets is its first set, with a chain from one of the next sets.
 use Rattle.std.specs.Prelude.{◌≡◌, ◌↔◌, ◌⊎◌, ◌+◌, ℕ, false, List, [], ◌∷◌, ◌++◌, map, length, Contains}
-use Rattle.iso_model.specs.Orders.{has}
+use Rattle.lists.specs.Orders.{has}
 use Rattle.iso_model.specs.Hulls.{IsFaceOf, first_vertex}
 
 -- a set that may stand next in a chain: a face of the set that misses its first vertex

@@ -1,9 +1,10 @@
 //! Chains of sets, each a face of the one before that misses its first vertex, and the simplices of their first vertices.
 
-ghost use Rattle.std.specs.Prelude.{◌≡◌, ◌+◌, ◌∷◌, ◌++◌, ◌<◌, ◌⊎◌, [], take, length, map, IfOk, OnOk, Contains};
+ghost use Rattle.std.specs.Prelude.{◌≡◌, ◌+◌, ◌∷◌, ◌++◌, ◌<◌, [], take, length, map, IfOk, OnOk, Contains};
 ghost use Rattle.iso_model.specs.Hulls.{ArePulled};
-ghost use Rattle.pulling_tri.specs.PointSets.{point_set};
+ghost use Rattle.pulling_tri.specs.PointSets.{point_set, IsOneOf};
 ghost use Rattle.pulling_tri.specs.Pulling.{AddsPulled};
+ghost use Rattle.iso_model.specs.Dimensions.{IsDimension};
 
 use crate::faces::faces_without_first;
 use crate::sets::{first_point, is_point};
@@ -30,9 +31,9 @@ fn go_on<const D: usize>(
     set: u64,
     simplices: &mut Vec<[u8; D]>,
 ) -> Result<(), Memory>
-    requires dimension { (D ≡ 2) ⊎ ((D ≡ 3) ⊎ (D ≡ 4)) }
+    requires dimension { IsDimension D }
     requires room { filled < D }
-    ensures { OnOk result (AddsPulled (Contains (map point_set facets.now)) D (take filled firsts.now) (point_set set) simplices.old.items simplices.new.items) }
+    ensures { OnOk result (AddsPulled (IsOneOf facets.now) D (take filled firsts.now) (point_set set) simplices.old.items simplices.new.items) }
 {
     if set == 0 {
         return Ok(());
@@ -70,8 +71,8 @@ pub fn pull<const D: usize>(
     facets: &[u64],
     face: u64,
 ) -> Result<Vec<[u8; D]>, Memory>
-    requires dimension { (D ≡ 2) ⊎ ((D ≡ 3) ⊎ (D ≡ 4)) }
-    ensures { IfOk result (λ simplices. ArePulled (Contains (map point_set facets.now)) D (point_set face) simplices.items) }
+    requires dimension { IsDimension D }
+    ensures { IfOk result (λ simplices. ArePulled (IsOneOf facets.now) D (point_set face) simplices.items) }
 {
     let mut simplices = Vec::new(alloc);
     go_on(alloc, facets, &[0; D], 0, face, &mut simplices)?;

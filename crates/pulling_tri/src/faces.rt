@@ -1,7 +1,7 @@
 //! The faces of a set of points that miss its first vertex.
 
 ghost use Rattle.std.specs.Prelude.{◌≡◌, ◌<◌, map, IfOk, Contains};
-ghost use Rattle.pulling_tri.specs.PointSets.{point_set};
+ghost use Rattle.pulling_tri.specs.PointSets.{point_set, IsOneOf};
 ghost use Rattle.pulling_tri.specs.Pulling.{AreNext};
 ghost use Rattle.pulling_tri.specs.Meets.{AreMeets, meets_in_turn, is_greatest, maximal_without};
 
@@ -66,7 +66,7 @@ pub(crate) fn faces_without_first(
     set: u64,
 ) -> Result<Vec<u64>, Memory>
     requires { 0 < set }
-    ensures { IfOk result (λ faces. AreNext (Contains (map point_set facets.now)) (point_set set) (map point_set faces.items)) }
+    ensures { IfOk result (λ faces. AreNext (IsOneOf facets.now) (point_set set) (map point_set faces.items)) }
 {
     let meets = proper_meets(alloc, facets, set)?;
     maximal_meets(alloc, &meets, first_point(set))

@@ -5,8 +5,7 @@
 //!
 //! For proofs above this crate: `pull` ensures `ArePulled` of `iso_model`, which fixes its answer, over the sets of the
 //! numbers (`point_set` of `specs/PointSets`). Of the files in `proofs`, `Callers` says when the set of a number is the
-//! one that is given by a test (`points-are`), and that two predicates with the same facets have the same pulled simplices
-//! (`pulled_same`); `PointSetLaws` has the meets and bits of these sets and that they ascend (`points-ascend`);
+//! one that is given by a test (`points-are`); `PointSetLaws` has the meets and bits of these sets and that they ascend (`points-ascend`);
 //! `ChainLaws` says that the first vertices along a chain ascend (`firsts_sorted`).
 #![tactic(auto)]
 

@@ -1,31 +1,26 @@
 -- The lists of edges of facets, and the places of faces on both sides of a seam.
-use Rattle.std.specs.Prelude.{◌≡◌, ℕ, zero, suc, ◌+◌, ◌-◌, ◌*◌, ◌%◌, ◌^◌, ◌<◌, ◌≤◌, Bool, true, false, List, ◌∷◌, map, filter, length, All, nat_le, if◌then◌else◌}
+use Rattle.std.specs.Prelude.{◌≡◌, ℕ, zero, suc, ◌+◌, ◌-◌, ◌*◌, ◌%◌, ◌^◌, ◌<◌, ◌≤◌, Bool, true, false, List, ◌∷◌, map, filter, length, All, nat_le}
+use Rattle.std.specs.Prelude.{if◌then◌else◌}
 use Rattle.std.specs.List.{range_with_len}
 use Rattle.std.proofs.Common.{refl, ap, ◌∙◌, arith, inl, inr}
 use Rattle.std.proofs.Math.Pow.{pow-lt}
 use Rattle.std.proofs.lemmas.Bool.{leb-true}
 use Rattle.iso_model.specs.declared.Kind.{Kind}
-use Rattle.iso_model.specs.Orders.{numbers, choices}
-use Rattle.iso_model.specs.Cells.{HasDimension, is_set, corner_count, edge_count, edge_in_facet, facet_edges}
-use Rattle.iso_model.specs.Hulls.{set_number}
+use Rattle.lists.specs.Orders.{numbers, choices}
+use Rattle.iso_model.specs.Cells.{HasDimension, corner_count, edge_count, edge_in_facet, facet_edges}
 use Rattle.iso_model.specs.Seams.{Seam, seams}
-use Rattle.mesh_laws.proofs.Members.{In}
 use Rattle.cell_lattice.specs.Agreement.{agree_on}
-use Rattle.cell_lattice.specs.Dimensions.{IsDimension, of_each_cell}
+use Rattle.iso_model.specs.Dimensions.{IsDimension, of_each_cell}
 use Rattle.seam_traces.specs.Traces.{places}
-use Rattle.seam_traces.proofs.Sets.{Ascends, filter_in, filter_climbs}
+use Rattle.lists.specs.Bits.{is_set, set_number}
+use Rattle.lists.specs.Members.{In, Ascends}
+use Rattle.lists.proofs.Ascending.{Climbs-filter, Ascends-range}
+use Rattle.lists.proofs.MemberLaws.{from_filter}
 
 pub range_in : (a n y : ℕ) → In y (range_with_len a n) → (a ≤ y) × (y < a + n)
 range_in a zero y i = absurd i
 range_in a (suc n) y (inl e) = (omega arith, omega arith)
 range_in a (suc n) y (inr i) = let r = range_in (a + 1) n y i in let low = r.0 in let high = r.1 in (omega arith, omega arith)
-
-range_climbs : (a n : ℕ) → Ascends (range_with_len a n)
-range_climbs a zero = tt
-range_climbs a (suc n) = (λ y i. let r = range_in (a + 1) n y i in let low = r.0 in omega arith, range_climbs (a + 1) n)
-
-pub facet_ascends : (kind : Kind) (d f : ℕ) → Ascends (facet_edges kind d f)
-facet_ascends kind d f = filter_climbs (λ x. x) (edge_in_facet kind d f) (numbers (edge_count kind d)) (range_climbs 0 (edge_count kind d))
 
 few : (kind : Kind) (d : ℕ) → IsDimension d → HasDimension kind d → nat_le (edge_count kind d) 32 ≡ true
 few = of_each_cell (λ k n. nat_le (edge_count k n) 32 ≡ true) refl refl refl refl refl refl refl
@@ -35,7 +30,7 @@ few_edges kind d is has = leb-true (edge_count kind d) 32 (few kind d is has)
 
 pub facet_small : (kind : Kind) (d : ℕ) → IsDimension d → HasDimension kind d → (f y : ℕ) → In y (facet_edges kind d f) → y < 32
 facet_small kind d is has f y i =
-    let r = range_in 0 (edge_count kind d) y (filter_in (edge_in_facet kind d f) (numbers (edge_count kind d)) y i).0 in
+    let r = range_in 0 (edge_count kind d) y (from_filter (edge_in_facet kind d f) (numbers (edge_count kind d)) y i).0 in
     let high = r.1 in
     let small = few_edges kind d is has in
     omega arith
@@ -49,24 +44,21 @@ abbrev pub face_places : Kind → ℕ → ℕ → List ℕ
 face_places kind d f = places_of_choices (d - 1) (facet_edges kind d f)
 
 -- the faces on both sides of a seam have the same places
-pub seam_places : (kind : Kind) (d : ℕ) → IsDimension d → HasDimension kind d → All (λ (s : Seam). face_places kind d s.facet ≡ face_places kind d s.other) (seams kind d)
+pub seam_places : (kind : Kind) (d : ℕ) → IsDimension d → HasDimension kind d
+    → All (λ (s : Seam). face_places kind d s.facet ≡ face_places kind d s.other) (seams kind d)
 seam_places kind d is has =
     agree_on (λ (s : Seam). face_places kind d s.facet) (λ (s : Seam). face_places kind d s.other) (seams kind d)
-    (of_each_cell (λ k n. map (λ (s : Seam). face_places k n s.facet) (seams k n) ≡ map (λ (s : Seam). face_places k n s.other) (seams k n)) refl refl refl refl refl refl refl kind d is has)
+    (of_each_cell (λ k n. map (λ (s : Seam). face_places k n s.facet) (seams k n) ≡ map (λ (s : Seam). face_places k n s.other) (seams k n)) refl refl
+         refl refl refl refl refl kind d is has)
 
 -- ---- what the calls of a cell tell
-
-few_at : (kind : Kind) (d : ℕ) → IsDimension d → HasDimension kind d → nat_le (corner_count kind d) 16 ≡ true
-few_at = of_each_cell (λ k n. nat_le (corner_count k n) 16 ≡ true) refl refl refl refl refl refl refl
-
-pub few_corners : (kind : Kind) (d : ℕ) → IsDimension d → HasDimension kind d → corner_count kind d ≤ 16
-few_corners kind d is has = leb-true (corner_count kind d) 16 (few_at kind d is has)
 
 filter_length : (p : ℕ → Bool) (a n : ℕ) → length (filter p (range_with_len a n)) ≤ n
 filter_length p a zero = omega arith
 filter_length p a (suc n) = by (p a) (filter_length p (a + 1) n)
   where
-    by : (b : Bool) → length (filter p (range_with_len (a + 1) n)) ≤ n → length (if b then a ∷ filter p (range_with_len (a + 1) n) else filter p (range_with_len (a + 1) n)) ≤ suc n
+    by : (b : Bool) → length (filter p (range_with_len (a + 1) n)) ≤ n
+        → length (if b then a ∷ filter p (range_with_len (a + 1) n) else filter p (range_with_len (a + 1) n)) ≤ suc n
     by true h = omega arith
     by false h = omega arith
 
@@ -81,6 +73,3 @@ filter_range p q a (suc n) h =
 
 pub members_are : (set : ℕ) (q : ℕ → Bool) (n m : ℕ) → n ≡ m → ((k : ℕ) → k < n → is_set set k ≡ q k) → filter (is_set set) (numbers n) ≡ filter q (numbers m)
 members_are set q n m e h = filter_range (is_set set) q 0 n (λ k low high. h k (omega arith)) ∙ ap (λ l. filter q (numbers l)) e
-
-pub shifted_one : (n : ℕ) → n < 64 → 1 * 2 ^ n % 2 ^ 64 ≡ 2 ^ n
-shifted_one n h = let less : 2 ^ n < 2 ^ 64 = pow-lt {i = n} {j = 64} h in omega arith

@@ -5,22 +5,24 @@ use Rattle.std.proofs.Math.ListN.{get_or-map}
 use Rattle.std.proofs.lemmas.List.{get_or-set_same, get_or-set_other, map-set, length-set}
 use Rattle.std.proofs.lemmas.Bool.{cases_lt}
 use Rattle.std.specs.Vec.{with_item}
-use Rattle.iso_model.proofs.Deciding.{any_default}
 use Rattle.face_tallies.specs.declared.faces.FaceTally.{FaceTally}
 use Rattle.seam_traces.specs.declared.facets.Facet.{Facet}
 use Rattle.seam_traces.specs.declared.facets.Seen.{Seen}
 use Rattle.seam_traces.specs.declared.facets.Seen.TheVariants.{Never, Alike, Unlike}
-use Rattle.seam_traces.specs.Tallies.{tallies_across}
+use Rattle.seam_traces.specs.TallyLists.{tallies_across}
 use Rattle.seam_traces.specs.Kept.{seen_at, tallies_at, IsSound, pattern_on, tallies_on, TakesTallies, TakesLabel}
+use Rattle.lists.proofs.Contained.{any_default}
 
 pub across_same : (ts : List FaceTally) → tallies_across false ts ≡ ts
 across_same [] = refl
 across_same (t ∷ ts) = ap (λ l. t ∷ l) (across_same ts)
 
 -- the kept tallies of a pattern, read from the list of lists
-pub kept_at : (facet : Facet) (p : ℕ) (v : Vec FaceTally Global) → p < length facet.traces.items → v ≡ get_or facet.traces.items p v → tallies_at facet p ≡ v.items
+pub kept_at : (facet : Facet) (p : ℕ) (v : Vec FaceTally Global) → p < length facet.traces.items → v ≡ get_or facet.traces.items p v
+    → tallies_at facet p ≡ v.items
 kept_at facet p v inside e =
-    any_default (map (λ (k : Vec FaceTally Global). k.items) facet.traces.items) p [] v.items (subst (λ n. p < n) (sym (length-map (λ (k : Vec FaceTally Global). k.items) facet.traces.items)) inside)
+    any_default (map (λ (k : Vec FaceTally Global). k.items) facet.traces.items) p [] v.items
+        (subst (λ n. p < n) (sym (length-map (λ (k : Vec FaceTally Global). k.items) facet.traces.items)) inside)
     ∙ get_or-map (λ (k : Vec FaceTally Global). k.items) facet.traces.items p v ∙ ap (λ (k : Vec FaceTally Global). k.items) (sym e)
   where
     length-map : {X Y : Type 0} (f : X → Y) (xs : List X) → length (map f xs) ≡ length xs
@@ -34,7 +36,8 @@ seen_is : (facet : Facet) (p : ℕ) (s : Seen) → p < length facet.seen.items �
 seen_is facet p s inside e = any_default facet.seen.items p Never s inside ∙ sym e
 
 -- the first label with its pattern
-pub takes_first : (label : ℕ) (tallies : List FaceTally) (old : Facet) (p : ℕ) (s : Seen) (t : Vec FaceTally Global) → IsSound old → p < 2 ^ length old.corners.items → p ≡ pattern_on old label
+pub takes_first : (label : ℕ) (tallies : List FaceTally) (old : Facet) (p : ℕ) (s : Seen) (t : Vec FaceTally Global) → IsSound old
+    → p < 2 ^ length old.corners.items → p ≡ pattern_on old label
     → s ≡ get_or old.seen.items p s → s ≡ Never → t.items ≡ tallies_on old tallies
     → TakesLabel label tallies old (record old { seen = with_item old.seen p Alike; traces = with_item old.traces p t })
 takes_first label tallies old p s t sound less is read never told =
@@ -47,14 +50,22 @@ takes_first label tallies old p s t sound less is read never told =
       set = refl;
       seen = length-set old.seen.items p Alike;
       traces = length-set old.traces.items p t;
-      here = subst (λ q. TakesTallies (tallies_on old tallies) (seen_at old q) (tallies_at old q) (get_or (set old.seen.items p Alike) q Never) (get_or (lists (set old.traces.items p t)) q [])) is
-          (subst (λ b. TakesTallies (tallies_on old tallies) b (tallies_at old p) (get_or (set old.seen.items p Alike) p Never) (get_or (lists (set old.traces.items p t)) p [])) (sym (seen_is old p s in_seen read ∙ never)) (
+      here =
+          subst
+              (λ q.
+                   TakesTallies (tallies_on old tallies) (seen_at old q) (tallies_at old q) (get_or (set old.seen.items p Alike) q Never)
+                       (get_or (lists (set old.traces.items p t)) q []))
+              is
+          (subst (λ b. TakesTallies (tallies_on old tallies) b (tallies_at old p) (get_or (set old.seen.items p Alike) p Never)
+              (get_or (lists (set old.traces.items p t)) p [])) (sym (seen_is old p s in_seen read ∙ never)) (
             get_or-set_same old.seen.items p Alike Never in_seen,
-            ap (λ l. get_or l p []) (map-set (λ (k : Vec FaceTally Global). k.items) old.traces.items p t) ∙ get_or-set_same (lists old.traces.items) p t.items [] wide ∙ told,
+            ap (λ l. get_or l p []) (map-set (λ (k : Vec FaceTally Global). k.items) old.traces.items p t)
+                ∙ get_or-set_same (lists old.traces.items) p t.items [] wide ∙ told,
           ));
       others = λ q other. (
         get_or-set_other old.seen.items p q Alike Never (λ e. other (e ∙ is)),
-        ap (λ l. get_or l q []) (map-set (λ (k : Vec FaceTally Global). k.items) old.traces.items p t) ∙ get_or-set_other (lists old.traces.items) p q t.items [] (λ e. other (e ∙ is)),
+        ap (λ l. get_or l q []) (map-set (λ (k : Vec FaceTally Global). k.items) old.traces.items p t)
+            ∙ get_or-set_other (lists old.traces.items) p q t.items [] (λ e. other (e ∙ is)),
       );
     }
   where
@@ -63,7 +74,8 @@ takes_first label tallies old p s t sound less is read never told =
     length-lists (v ∷ vs) = let r = length-lists vs in omega arith
 
 -- a label that differs from the first one with its pattern
-pub takes_other : (label : ℕ) (tallies : List FaceTally) (old : Facet) (p : ℕ) (s : Seen) → IsSound old → p < 2 ^ length old.corners.items → p ≡ pattern_on old label
+pub takes_other : (label : ℕ) (tallies : List FaceTally) (old : Facet) (p : ℕ) (s : Seen) → IsSound old → p < 2 ^ length old.corners.items
+    → p ≡ pattern_on old label
     → s ≡ get_or old.seen.items p s → s ≡ Alike → (tallies_at old p ≡ tallies_on old tallies → ⊥)
     → TakesLabel label tallies old (record old { seen = with_item old.seen p Unlike })
 takes_other label tallies old p s sound less is read alike differs =
@@ -74,14 +86,21 @@ takes_other label tallies old p s sound less is read alike differs =
       set = refl;
       seen = length-set old.seen.items p Unlike;
       traces = refl;
-      here = subst (λ q. TakesTallies (tallies_on old tallies) (seen_at old q) (tallies_at old q) (get_or (set old.seen.items p Unlike) q Never) (tallies_at old q)) is
-          (subst (λ b. TakesTallies (tallies_on old tallies) b (tallies_at old p) (get_or (set old.seen.items p Unlike) p Never) (tallies_at old p)) (sym (seen_is old p s in_seen read ∙ alike))
+      here =
+          subst
+              (λ q.
+                   TakesTallies (tallies_on old tallies) (seen_at old q) (tallies_at old q) (get_or (set old.seen.items p Unlike) q Never)
+                       (tallies_at old q))
+              is
+          (subst (λ b. TakesTallies (tallies_on old tallies) b (tallies_at old p) (get_or (set old.seen.items p Unlike) p Never) (tallies_at old p))
+              (sym (seen_is old p s in_seen read ∙ alike))
           (refl, inr (get_or-set_same old.seen.items p Unlike Never in_seen, differs)));
       others = λ q other. (get_or-set_other old.seen.items p q Unlike Never (λ e. other (e ∙ is)), refl);
     }
 
 -- a label that has the trace of the first one with its pattern
-pub takes_same : (label : ℕ) (tallies : List FaceTally) (old : Facet) (p : ℕ) (s : Seen) → IsSound old → p < 2 ^ length old.corners.items → p ≡ pattern_on old label
+pub takes_same : (label : ℕ) (tallies : List FaceTally) (old : Facet) (p : ℕ) (s : Seen) → IsSound old → p < 2 ^ length old.corners.items
+    → p ≡ pattern_on old label
     → s ≡ get_or old.seen.items p s → s ≡ Alike → tallies_at old p ≡ tallies_on old tallies
     → TakesLabel label tallies old old
 takes_same label tallies old p s sound less is read alike same =
@@ -110,7 +129,8 @@ at_end [] y x = refl
 at_end (z ∷ xs) y x = at_end xs y x
 
 -- what holds of each facet, and of one more
-pub each_more : (P : ℕ → Facet → Type 0) (xs ys : List Facet) (y : Facet) → ys ≡ xs ++ y ∷ [] → ((f : ℕ) (x : Facet) → f < length xs → P f (slice_index_or xs f x)) → P (length xs) y
+pub each_more : (P : ℕ → Facet → Type 0) (xs ys : List Facet) (y : Facet) → ys ≡ xs ++ y ∷ []
+    → ((f : ℕ) (x : Facet) → f < length xs → P f (slice_index_or xs f x)) → P (length xs) y
     → (f : ℕ) (x : Facet) → f < length xs + 1 → P f (slice_index_or ys f x)
 each_more P xs ys y e each last f x less = elim (cases_lt f (length xs)) as (λ _. P f (slice_index_or ys f x)) [
   | inl h ↦ subst (λ z. P f z) (sym (ap (λ l. get_or l f x) e ∙ before_end xs y x f h)) (each f x h)

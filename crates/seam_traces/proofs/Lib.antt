@@ -1,9 +1,9 @@
 pub mod Sets
-pub mod Choices
+pub mod ChosenFaces
 pub mod Lookups
 pub mod FacetLists
 pub mod KeptTraces
 pub mod SeamRule
-pub mod Steps
+pub mod GatheredSteps
 pub mod KeptSteps
-pub mod TableLaws
+pub mod TraceTables

@@ -5,15 +5,18 @@ use Rattle.std.proofs.lemmas.Bool.{false≢true, cases_eq, cases_lt, eq-eqb, ne_
 use Rattle.std.proofs.lemmas.Int.{ints}
 use Rattle.iso_model.specs.Turns.{signed}
 use Rattle.iso_model.specs.Faces.{face_count, face_sum}
-use Rattle.iso_model.specs.Hulls.{set_number}
-use Rattle.mesh_laws.proofs.Members.{In, from_In-map}
 use Rattle.mesh_laws.proofs.SignedFaces.{face_count_is, face_sum_is}
 use Rattle.face_tallies.specs.declared.faces.FaceTally.{FaceTally}
 use Rattle.face_tallies.specs.Tallies.{IsFace, IsTallyOf}
 use Rattle.seam_traces.specs.Traces.{places}
-use Rattle.seam_traces.specs.Tallies.{is_within, placed, tallies_in, tally_across, tallies_across}
-use Rattle.seam_traces.proofs.Sets.{Climbs, Ascends, filter_in, filter_climbs, places_ascend, places_apart}
-use Rattle.seam_traces.proofs.Choices.{face_ascends, same_from_number}
+use Rattle.seam_traces.specs.TallyLists.{is_within, placed, tallies_in, tally_across, tallies_across}
+use Rattle.seam_traces.proofs.Sets.{places_ascend, places_apart}
+use Rattle.seam_traces.proofs.ChosenFaces.{face_ascends}
+use Rattle.lists.specs.Bits.{set_number}
+use Rattle.lists.specs.Members.{In, Climbs, Ascends}
+use Rattle.lists.proofs.MemberLaws.{from_In-map, from_filter}
+use Rattle.lists.proofs.Ascending.{Climbs-filter}
+use Rattle.lists.proofs.Bits.{same_from_number}
 
 -- the set of a tally
 abbrev pub key : FaceTally → ℕ
@@ -50,7 +53,8 @@ found_none [] set h = refl
 found_none (t ∷ ts) set h = found_later t ts set (h t (inl refl)) ∙ found_none ts set (λ u i. h u (inr i))
 
 -- the tally that has the set, or that none has it
-pub find_set : (ts : List FaceTally) (set : ℕ) → ((t : FaceTally) × In t ts × (t.edges ≡ set) × (found ts set ≡ counts_of t)) ⊎ ((t : FaceTally) → In t ts → t.edges ≡ set → ⊥)
+pub find_set : (ts : List FaceTally) (set : ℕ)
+    → ((t : FaceTally) × In t ts × (t.edges ≡ set) × (found ts set ≡ counts_of t)) ⊎ ((t : FaceTally) → In t ts → t.edges ≡ set → ⊥)
 find_set [] set = inr (λ t i e. i)
 find_set (t ∷ ts) set = elim (cases_eq t.edges set) [
   | inl e ↦ inl (t, inl refl, e, found_here t ts set e)
@@ -60,7 +64,8 @@ find_set (t ∷ ts) set = elim (cases_eq t.edges set) [
   ]
 ]
   where
-    by_place : (t : FaceTally) (ts : List FaceTally) (u : FaceTally) → (t.edges ≡ set → ⊥) → ((v : FaceTally) → In v ts → v.edges ≡ set → ⊥) → In u (t ∷ ts) → u.edges ≡ set → ⊥
+    by_place : (t : FaceTally) (ts : List FaceTally) (u : FaceTally) → (t.edges ≡ set → ⊥) → ((v : FaceTally) → In v ts → v.edges ≡ set → ⊥)
+        → In u (t ∷ ts) → u.edges ≡ set → ⊥
     by_place t ts u e n (inl same) f = e (ap key (sym same) ∙ f)
     by_place t ts u e n (inr i) f = n u i f
 
@@ -84,7 +89,9 @@ same_tallies (x ∷ xs) (y ∷ ys) a b s t h = elim (cases_eq x.edges y.edges) [
       cc
   | inr e ↦ absurd (elim (cases_lt x.edges y.edges) [
     | inl less ↦ counted x (s x (inl refl)) (sym (found_here x xs x.edges refl) ∙ h x.edges ∙ above_none (y ∷ ys) x.edges (above y ys x.edges less b))
-    | inr more ↦ counted y (t y (inl refl)) (sym (found_here y ys y.edges refl) ∙ sym (h y.edges) ∙ above_none (x ∷ xs) y.edges (above x xs y.edges (omega arith) a))
+    | inr more ↦
+        counted y (t y (inl refl))
+            (sym (found_here y ys y.edges refl) ∙ sym (h y.edges) ∙ above_none (x ∷ xs) y.edges (above x xs y.edges (omega arith) a))
   ])
 ]
   where
@@ -96,7 +103,8 @@ same_tallies (x ∷ xs) (y ∷ ys) a b s t h = elim (cases_eq x.edges y.edges) [
     above y ys set less c z (inl e) = let f = ap key e in omega arith
     above y ys set less c z (inr i) = let more = c.0 z i in omega arith
 
-    tails : (x y : FaceTally) (xs ys : List FaceTally) → Climbs key (x ∷ xs) → Climbs key (y ∷ ys) → x.edges ≡ y.edges → ((set : ℕ) → found (x ∷ xs) set ≡ found (y ∷ ys) set)
+    tails : (x y : FaceTally) (xs ys : List FaceTally) → Climbs key (x ∷ xs) → Climbs key (y ∷ ys) → x.edges ≡ y.edges
+        → ((set : ℕ) → found (x ∷ xs) set ≡ found (y ∷ ys) set)
         → (set : ℕ) → (x.edges ≡ set) ⊎ (x.edges ≡ set → ⊥) → found xs set ≡ found ys set
     tails x y xs ys a b e h set (inl same) =
         above_none xs set (λ z i. let more = a.0 z i in omega arith) ∙ sym (above_none ys set (λ z i. let more = b.0 z i in omega arith))
@@ -105,29 +113,32 @@ same_tallies (x ∷ xs) (y ∷ ys) a b s t h = elim (cases_eq x.edges y.edges) [
 
 -- ---- tallies in a facet
 
-pub in_tallies : (edges : List ℕ) (ts : List FaceTally) (z : FaceTally) → In z (tallies_in edges ts) → (t : FaceTally) × In t ts × (is_within edges t.edges ≡ true) × (z ≡ placed edges t)
+pub in_tallies : (edges : List ℕ) (ts : List FaceTally) (z : FaceTally) → In z (tallies_in edges ts)
+    → (t : FaceTally) × In t ts × (is_within edges t.edges ≡ true) × (z ≡ placed edges t)
 in_tallies edges ts z i =
     let r = from_In-map (placed edges) (filter (λ (t : FaceTally). is_within edges t.edges) ts) z i in
-    let f = filter_in (λ (t : FaceTally). is_within edges t.edges) ts r.0 r.1 in
+    let f = from_filter (λ (t : FaceTally). is_within edges t.edges) ts r.0 r.1 in
     (r.0, f.0, f.1, r.2)
 
 pub within_is : (edges : List ℕ) (set : ℕ) → is_within edges set ≡ true → bit_and set (set_number edges) ≡ set
 within_is edges set h = eqb-true (bit_and set (set_number edges)) set h
 
-placed_climb : (edges : List ℕ) → Ascends edges → (ts : List FaceTally) → ((t : FaceTally) → In t ts → is_within edges t.edges ≡ true) → Climbs key ts → Climbs key (map (placed edges) ts)
+placed_climb : (edges : List ℕ) → Ascends edges → (ts : List FaceTally) → ((t : FaceTally) → In t ts → is_within edges t.edges ≡ true) → Climbs key ts
+    → Climbs key (map (placed edges) ts)
 placed_climb edges a [] within c = tt
 placed_climb edges a (t ∷ ts) within c = (
   λ y i.
       let r = from_In-map (placed edges) ts y i in
       subst (λ (z : FaceTally). places edges t.edges < z.edges) (sym r.2)
-      (places_ascend edges a t.edges r.0.edges (within_is edges t.edges (within t (inl refl))) (within_is edges r.0.edges (within r.0 (inr r.1))) (c.0 r.0 r.1)),
+      (places_ascend edges a t.edges r.0.edges (within_is edges t.edges (within t (inl refl))) (within_is edges r.0.edges (within r.0 (inr r.1)))
+           (c.0 r.0 r.1)),
   placed_climb edges a ts (λ u i. within u (inr i)) c.1,
 )
 
 pub tallies_in_climb : (edges : List ℕ) → Ascends edges → (ts : List FaceTally) → Climbs key ts → Climbs key (tallies_in edges ts)
 tallies_in_climb edges a ts c =
     let p = λ (t : FaceTally). is_within edges t.edges in
-    placed_climb edges a (filter p ts) (λ t i. (filter_in p ts t i).1) (filter_climbs key p ts c)
+    placed_climb edges a (filter p ts) (λ t i. (from_filter p ts t i).1) (Climbs-filter key p ts c)
 
 pub tallies_in_count : (edges : List ℕ) (ts : List FaceTally) → Counts ts → Counts (tallies_in edges ts)
 tallies_in_count edges ts c z i =
@@ -135,7 +146,8 @@ tallies_in_count edges ts c z i =
     subst (λ (t : FaceTally). 0 < t.count) (sym r.3) (c r.0 r.1)
 
 -- what is found at the places of a set is what is found at the set
-pub found_in : (edges : List ℕ) → Ascends edges → (set : ℕ) → bit_and set (set_number edges) ≡ set → (ts : List FaceTally) → found (tallies_in edges ts) (places edges set) ≡ found ts set
+pub found_in : (edges : List ℕ) → Ascends edges → (set : ℕ) → bit_and set (set_number edges) ≡ set → (ts : List FaceTally)
+    → found (tallies_in edges ts) (places edges set) ≡ found ts set
 found_in edges a set in_set [] = refl
 found_in edges a set in_set (t ∷ ts) = by (is_within edges t.edges) refl (cases_eq t.edges set) (found_in edges a set in_set ts)
   where
@@ -146,7 +158,9 @@ found_in edges a set in_set (t ∷ ts) = by (is_within edges t.edges) refl (case
         → found (map (placed edges) (if b then t ∷ rest else rest)) (places edges set) ≡ found (t ∷ ts) set
     by true w (inl e) behind = found_here (placed edges t) (tallies_in edges ts) (places edges set) (ap (places edges) e) ∙ sym (found_here t ts set e)
     by true w (inr e) behind =
-        found_later (placed edges t) (tallies_in edges ts) (places edges set) (λ f. e (places_apart edges a t.edges set (within_is edges t.edges w) in_set f)) ∙ behind ∙ sym (found_later t ts set e)
+        found_later (placed edges t) (tallies_in edges ts) (places edges set)
+            (λ f. e (places_apart edges a t.edges set (within_is edges t.edges w) in_set f))
+            ∙ behind ∙ sym (found_later t ts set e)
     by false w (inl e) behind = absurd (false≢true (sym w ∙ ap (is_within edges) e ∙ eq-eqb (bit_and set (set_number edges)) set in_set))
     by false w (inr e) behind = behind ∙ sym (found_later t ts set e)
 
@@ -154,7 +168,11 @@ found_in edges a set in_set (t ∷ ts) = by (is_within edges t.edges) refl (case
 
 pub across_climb : (same : Bool) (ts : List FaceTally) → Climbs key ts → Climbs key (tallies_across same ts)
 across_climb same [] c = tt
-across_climb same (t ∷ ts) c = (λ y i. let r = from_In-map (tally_across same) ts y i in subst (λ (z : FaceTally). t.edges < z.edges) (sym r.2) (c.0 r.0 r.1), across_climb same ts c.1)
+across_climb same (t ∷ ts) c =
+    (
+      λ y i. let r = from_In-map (tally_across same) ts y i in subst (λ (z : FaceTally). t.edges < z.edges) (sym r.2) (c.0 r.0 r.1),
+      across_climb same ts c.1
+    )
 
 pub across_count : (same : Bool) (ts : List FaceTally) → Counts ts → Counts (tallies_across same ts)
 across_count same ts c z i = let r = from_In-map (tally_across same) ts z i in subst (λ (t : FaceTally). 0 < t.count) (sym r.2) (c r.0 r.1)
@@ -169,20 +187,16 @@ zero_across false = refl
 
 pub found_across : (same : Bool) (ts : List FaceTally) (set : ℕ) → found (tallies_across same ts) set ≡ counts_across same (found ts set)
 found_across same [] set = zero_across same
-found_across same (t ∷ ts) set = elim (t.edges == set) as (λ b. (if b then counts_across same (counts_of t) else found (tallies_across same ts) set) ≡ counts_across same (if b then counts_of t else found ts set)) [
+found_across same (t ∷ ts) set = elim (t.edges == set) as
+    (λ b. (if b then counts_across same (counts_of t) else found (tallies_across same ts) set) ≡ counts_across same (if b then counts_of t else found ts set)) [
   | true ↦ refl
   | false ↦ found_across same ts set
 ]
 
 -- ---- the tallies of tuples
 
-pub no_sum : (ws : List (List ℕ)) (face : List ℕ) → face_count ws face ≡ 0 → face_sum ws face ≡ pos 0
-no_sum ws face none =
-    let c = face_count_is ws face in
-    let s = face_sum_is ws face in
-    omega (arith, ints)
-
-pub tally_of : (d : ℕ) (ws : List (List ℕ)) (t : FaceTally) (face : List ℕ) → IsFace d face → IsTallyOf d ws t → t.edges ≡ set_number face → counts_of t ≡ (let c : ℕ × ℤ = (face_count ws face, face_sum ws face) in c)
+pub tally_of : (d : ℕ) (ws : List (List ℕ)) (t : FaceTally) (face : List ℕ) → IsFace d face → IsTallyOf d ws t → t.edges ≡ set_number face
+    → counts_of t ≡ (let c : ℕ × ℤ = (face_count ws face, face_sum ws face) in c)
 tally_of d ws t face f is e =
     let same : is.face ≡ face = same_from_number is.face face (face_ascends d is.face is.is_face) (face_ascends d face f) (sym is.set ∙ e) in
     let c : t.count ≡ face_count ws face = is.count ∙ ap (face_count ws) same in

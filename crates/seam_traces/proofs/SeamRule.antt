@@ -1,23 +1,27 @@
 -- The rule of seams at a label, by patterns and traces.
-use Rattle.std.specs.Prelude.{◌≡◌, ℕ, ℤ, pos, negsuc, ◌+ℤ◌, zero, suc, ◌+◌, ◌-◌, ◌*◌, ◌<◌, Bool, true, false, not, ◌&&◌, ◌||◌, ◌==◌, List, [], ◌∷◌, map, if◌then◌else◌}
+use Rattle.std.specs.Prelude.{◌≡◌, ℕ, ℤ, pos, negsuc, ◌+ℤ◌, zero, suc, ◌+◌, ◌-◌, ◌*◌, ◌<◌, Bool, true, false, not, ◌&&◌, ◌||◌, ◌==◌, List, [], ◌∷◌}
+use Rattle.std.specs.Prelude.{map, if◌then◌else◌}
 use Rattle.std.specs.List.{list_all, range_with_len}
 use Rattle.std.proofs.Common.{refl, sym, ap, ◌∙◌, subst, arith}
 use Rattle.std.proofs.lemmas.Bool.{false≢true, eq-eqb, eqb-true, and_parts, and_from}
 use Rattle.std.proofs.lemmas.Int.{ints}
 use Rattle.iso_model.specs.declared.Kind.{Kind}
-use Rattle.iso_model.specs.Orders.{choices}
+use Rattle.lists.specs.Orders.{choices}
 use Rattle.iso_model.specs.Turns.{signed, same_int}
-use Rattle.iso_model.specs.Cells.{is_set, facet_corners, facet_edges, label_count}
+use Rattle.iso_model.specs.Cells.{facet_corners, facet_edges, label_count}
 use Rattle.iso_model.specs.Seams.{Seam, corner_across, edge_across}
 use Rattle.iso_model.specs.CellLaws.{MeetsCorners, KeepsEdges}
 use Rattle.iso_model.specs.Faces.{face_count, face_sum}
 use Rattle.iso_model.specs.Tables.{Table, entry_of}
 use Rattle.iso_model.specs.Acceptance.{labels_meet, sums_match, entries_meet, meets_across}
-use Rattle.iso_model.proofs.PlaceLaws.{map-map}
 use Rattle.seam_traces.specs.Traces.{number_of_bits, pattern, trace, trace_across, keeps_seam}
-use Rattle.seam_traces.proofs.Choices.{choices-map}
+use Rattle.seam_traces.proofs.ChosenFaces.{choices-map}
 use Rattle.seam_traces.proofs.Lookups.{counts_across}
 use Rattle.seam_traces.proofs.KeptTraces.{face_counts}
+use Rattle.lists.specs.Bits.{is_set}
+use Rattle.lists.proofs.MemberLaws.{map-map}
+use Rattle.lists.proofs.Tests.{not_or, not_or_from, same_if}
+use Rattle.iso_model.proofs.PointLaws.{same_int-is, is-same_int}
 
 -- ---- patterns
 
@@ -31,12 +35,6 @@ same_bit : (a b : Bool) → (if a then b else not b) ≡ true → a ≡ b
 same_bit true b h = sym h
 same_bit false true h = absurd (false≢true h)
 same_bit false false h = refl
-
-bit_same : (a b : Bool) → a ≡ b → (if a then b else not b) ≡ true
-bit_same true true h = refl
-bit_same true false h = absurd (false≢true (sym h))
-bit_same false true h = absurd (false≢true h)
-bit_same false false h = refl
 
 same_patterns : (p q : ℕ → Bool) (across : ℕ → ℕ) (ks : List ℕ) → list_all (λ k. if p k then q (across k) else not (q (across k))) ks ≡ true
     → number_of_bits (map p ks) ≡ number_of_bits (map q (map across ks))
@@ -52,28 +50,22 @@ patterns_same : (p q : ℕ → Bool) (across : ℕ → ℕ) (ks : List ℕ) → 
 patterns_same p q across [] h = refl
 patterns_same p q across (k ∷ ks) h =
     let r = bits_apart (p k) (q (across k)) (number_of_bits (map p ks)) (number_of_bits (map q (map across ks))) h in
-    and_from (if p k then q (across k) else not (q (across k))) (list_all (λ k. if p k then q (across k) else not (q (across k))) ks) (bit_same (p k) (q (across k)) r.0) (patterns_same p q across ks r.1)
+    and_from (if p k then q (across k) else not (q (across k))) (list_all (λ k. if p k then q (across k) else not (q (across k))) ks)
+        (same_if (p k) (q (across k)) r.0) (patterns_same p q across ks r.1)
 
 -- labels agree on the corners that meet across a seam exactly where their patterns are equal
-meet_patterns : (kind : Kind) (d : ℕ) (s : Seam) (here there : ℕ) → MeetsCorners kind d s → labels_meet kind d s here there ≡ true → pattern kind d s.facet here ≡ pattern kind d s.other there
+meet_patterns : (kind : Kind) (d : ℕ) (s : Seam) (here there : ℕ) → MeetsCorners kind d s → labels_meet kind d s here there ≡ true
+    → pattern kind d s.facet here ≡ pattern kind d s.other there
 meet_patterns kind d s here there m h =
     same_patterns (is_set here) (is_set there) (corner_across kind d s) (facet_corners kind d s.facet) h ∙ ap (λ ks. number_of_bits (map (is_set there) ks)) m
 
-patterns_meet : (kind : Kind) (d : ℕ) (s : Seam) (here there : ℕ) → MeetsCorners kind d s → pattern kind d s.facet here ≡ pattern kind d s.other there → labels_meet kind d s here there ≡ true
+patterns_meet : (kind : Kind) (d : ℕ) (s : Seam) (here there : ℕ) → MeetsCorners kind d s → pattern kind d s.facet here ≡ pattern kind d s.other there
+    → labels_meet kind d s here there ≡ true
 patterns_meet kind d s here there m h =
-    patterns_same (is_set here) (is_set there) (corner_across kind d s) (facet_corners kind d s.facet) (h ∙ sym (ap (λ ks. number_of_bits (map (is_set there) ks)) m))
+    patterns_same (is_set here) (is_set there) (corner_across kind d s) (facet_corners kind d s.facet)
+        (h ∙ sym (ap (λ ks. number_of_bits (map (is_set there) ks)) m))
 
 -- ---- traces
-
-same_int-is : (a b : ℤ) → same_int a b ≡ true → a ≡ b
-same_int-is (pos a) (pos b) h = ap pos (eqb-true a b h)
-same_int-is (pos a) (negsuc b) h = absurd (false≢true h)
-same_int-is (negsuc a) (pos b) h = absurd (false≢true h)
-same_int-is (negsuc a) (negsuc b) h = ap negsuc (eqb-true a b h)
-
-is-same_int : (a b : ℤ) → a ≡ b → same_int a b ≡ true
-is-same_int (pos a) b e = subst (λ (z : ℤ). same_int (pos a) z ≡ true) e (eq-eqb a a refl)
-is-same_int (negsuc a) b e = subst (λ (z : ℤ). same_int (negsuc a) z ≡ true) e (eq-eqb a a refl)
 
 sums_signed : (same : Bool) (a b : ℤ) → sums_match same a b ≡ true → b ≡ signed same a
 sums_signed true a b h = let e = same_int-is (a +ℤ b) (pos 0) h in omega (arith, ints)
@@ -93,7 +85,8 @@ all_to_map p a b f (x ∷ xs) h =
 
 map_to_all : {X Y : Type 0} (p : X → Bool) (a b : X → Y) → ((x : X) → a x ≡ b x → p x ≡ true) → (xs : List X) → map a xs ≡ map b xs → list_all p xs ≡ true
 map_to_all p a b f [] h = refl
-map_to_all p a b f (x ∷ xs) h = and_from (p x) (list_all p xs) (f x (let e : a x ≡ b x = cc in e)) (map_to_all p a b f xs (let e : map a xs ≡ map b xs = cc in e))
+map_to_all p a b f (x ∷ xs) h =
+    and_from (p x) (list_all p xs) (f x (let e : a x ≡ b x = cc in e)) (map_to_all p a b f xs (let e : map a xs ≡ map b xs = cc in e))
 
 -- what the trace on the other side is, over the choices of this side
 other_trace : (kind : Kind) (d : ℕ) (s : Seam) (there : List (List ℕ)) → KeepsEdges kind d s
@@ -114,11 +107,13 @@ entries_traces : (kind : Kind) (d : ℕ) (s : Seam) (here there : List (List ℕ
     → trace kind d s.other there ≡ trace_across s.same_parity (trace kind d s.facet here)
 entries_traces kind d s here there keeps h =
     sym (other_trace kind d s there keeps)
-    ∙ sym (all_to_map (face_meets kind d s here there) (λ face. counts_across s.same_parity (face_counts here face)) (λ face. face_counts there (map (edge_across kind d s) face)) each
+    ∙ sym (all_to_map (face_meets kind d s here there) (λ face. counts_across s.same_parity (face_counts here face))
+        (λ face. face_counts there (map (edge_across kind d s) face)) each
     (choices (d - 1) (facet_edges kind d s.facet)) h)
     ∙ sym (map-map (face_counts here) (counts_across s.same_parity) (choices (d - 1) (facet_edges kind d s.facet)))
   where
-    each : (face : List ℕ) → face_meets kind d s here there face ≡ true → counts_across s.same_parity (face_counts here face) ≡ face_counts there (map (edge_across kind d s) face)
+    each : (face : List ℕ) → face_meets kind d s here there face ≡ true
+        → counts_across s.same_parity (face_counts here face) ≡ face_counts there (map (edge_across kind d s) face)
     each face t =
         let other = map (edge_across kind d s) face in
         let r = and_parts (face_count here face == face_count there other) (sums_match s.same_parity (face_sum here face) (face_sum there other)) t in
@@ -129,11 +124,14 @@ entries_traces kind d s here there keeps h =
 traces_entries : (kind : Kind) (d : ℕ) (s : Seam) (here there : List (List ℕ)) → KeepsEdges kind d s
     → trace kind d s.other there ≡ trace_across s.same_parity (trace kind d s.facet here) → entries_meet kind d s here there ≡ true
 traces_entries kind d s here there keeps h =
-    map_to_all (face_meets kind d s here there) (λ face. counts_across s.same_parity (face_counts here face)) (λ face. face_counts there (map (edge_across kind d s) face)) each
+    map_to_all (face_meets kind d s here there) (λ face. counts_across s.same_parity (face_counts here face))
+        (λ face. face_counts there (map (edge_across kind d s) face)) each
     (choices (d - 1) (facet_edges kind d s.facet))
-    (sym (map-map (face_counts here) (counts_across s.same_parity) (choices (d - 1) (facet_edges kind d s.facet))) ∙ sym h ∙ sym (other_trace kind d s there keeps))
+    (sym (map-map (face_counts here) (counts_across s.same_parity) (choices (d - 1) (facet_edges kind d s.facet))) ∙ sym h
+         ∙ sym (other_trace kind d s there keeps))
   where
-    each : (face : List ℕ) → counts_across s.same_parity (face_counts here face) ≡ face_counts there (map (edge_across kind d s) face) → face_meets kind d s here there face ≡ true
+    each : (face : List ℕ) → counts_across s.same_parity (face_counts here face) ≡ face_counts there (map (edge_across kind d s) face)
+        → face_meets kind d s here there face ≡ true
     each face e =
         let other = map (edge_across kind d s) face in
         and_from (face_count here face == face_count there other) (sums_match s.same_parity (face_sum here face) (face_sum there other))
@@ -148,27 +146,21 @@ Corresponds t n f g same label =
     (m : ℕ) → m < n → pattern t.kind t.dimension g m ≡ pattern t.kind t.dimension f label
     → trace t.kind t.dimension g (entry_of t m) ≡ trace_across same (trace t.kind t.dimension f (entry_of t label))
 
-meet_or : (a b : Bool) → (not a || b) ≡ true → a ≡ true → b ≡ true
-meet_or true b h e = h
-meet_or false b h e = absurd (false≢true e)
-
-or_meet : (a b : Bool) → (a ≡ true → b ≡ true) → (not a || b) ≡ true
-or_meet true b f = f refl
-or_meet false b f = refl
-
-meets_traces : (t : Table) (s : Seam) (here there : ℕ) → MeetsCorners t.kind t.dimension s → KeepsEdges t.kind t.dimension s → meets_across t s here there ≡ true
+meets_traces : (t : Table) (s : Seam) (here there : ℕ) → MeetsCorners t.kind t.dimension s → KeepsEdges t.kind t.dimension s
+    → meets_across t s here there ≡ true
     → pattern t.kind t.dimension s.facet here ≡ pattern t.kind t.dimension s.other there
     → trace t.kind t.dimension s.other (entry_of t there) ≡ trace_across s.same_parity (trace t.kind t.dimension s.facet (entry_of t here))
 meets_traces t s here there m k h e =
     entries_traces t.kind t.dimension s (entry_of t here) (entry_of t there) k
-    (meet_or (labels_meet t.kind t.dimension s here there) (entries_meet t.kind t.dimension s (entry_of t here) (entry_of t there)) h (patterns_meet t.kind t.dimension s here there m e))
+    (not_or (labels_meet t.kind t.dimension s here there) (entries_meet t.kind t.dimension s (entry_of t here) (entry_of t there)) h
+         (patterns_meet t.kind t.dimension s here there m e))
 
 traces_meets : (t : Table) (s : Seam) (here there : ℕ) → MeetsCorners t.kind t.dimension s → KeepsEdges t.kind t.dimension s
     → (pattern t.kind t.dimension s.facet here ≡ pattern t.kind t.dimension s.other there
     → trace t.kind t.dimension s.other (entry_of t there) ≡ trace_across s.same_parity (trace t.kind t.dimension s.facet (entry_of t here)))
     → meets_across t s here there ≡ true
 traces_meets t s here there m k f =
-    or_meet (labels_meet t.kind t.dimension s here there) (entries_meet t.kind t.dimension s (entry_of t here) (entry_of t there))
+    not_or_from (labels_meet t.kind t.dimension s here there) (entries_meet t.kind t.dimension s (entry_of t here) (entry_of t there))
     (λ l. traces_entries t.kind t.dimension s (entry_of t here) (entry_of t there) k (f (meet_patterns t.kind t.dimension s here there m l)))
 
 twice : (same : Bool) (z : ℤ) → signed same (signed same z) ≡ z
@@ -177,7 +169,8 @@ twice false z = refl
 
 back : (same : Bool) (cs : List (ℕ × ℤ)) → trace_across same (trace_across same cs) ≡ cs
 back same [] = refl
-back same (c ∷ cs) = let e = twice same c.1 in let r = back same cs in let one : counts_across same (counts_across same c) ≡ c = ap (λ (z : ℤ). with_sum c.0 z) e in cc
+back same (c ∷ cs) =
+    let e = twice same c.1 in let r = back same cs in let one : counts_across same (counts_across same c) ≡ c = ap (λ (z : ℤ). with_sum c.0 z) e in cc
   where
     with_sum : ℕ → ℤ → ℕ × ℤ
     with_sum n z = (n, z)
@@ -200,10 +193,13 @@ below_each p a (suc n) f =
 
 -- a label keeps the rule at a seam exactly where it corresponds from each end of the seam to the other
 pub kept_corresponds : (t : Table) (label : ℕ) (s : Seam) → MeetsCorners t.kind t.dimension s → KeepsEdges t.kind t.dimension s → keeps_seam t label s ≡ true
-    → Corresponds t (label_count t.kind t.dimension) s.facet s.other s.same_parity label × Corresponds t (label_count t.kind t.dimension) s.other s.facet s.same_parity label
+    → Corresponds t (label_count t.kind t.dimension) s.facet s.other s.same_parity label
+        × Corresponds t (label_count t.kind t.dimension) s.other s.facet s.same_parity label
 kept_corresponds t label s corners edges h = (
   λ m less e. meets_traces t s label m corners edges (both m less).0 (sym e),
-  λ m less e. crossed s.same_parity (trace t.kind t.dimension s.other (entry_of t label)) (trace t.kind t.dimension s.facet (entry_of t m)) (meets_traces t s m label corners edges (both m less).1 e),
+  λ m less e.
+      crossed s.same_parity (trace t.kind t.dimension s.other (entry_of t label)) (trace t.kind t.dimension s.facet (entry_of t m))
+          (meets_traces t s m label corners edges (both m less).1 e),
 )
   where
     both : (m : ℕ) → m < label_count t.kind t.dimension → (meets_across t s label m ≡ true) × (meets_across t s m label ≡ true)
@@ -213,7 +209,8 @@ kept_corresponds t label s corners edges h = (
         and_parts (meets_across t s label m) (meets_across t s m label) (subst (λ k. (meets_across t s label k && meets_across t s k label) ≡ true) e at)
 
 pub corresponds_kept : (t : Table) (label : ℕ) (s : Seam) → MeetsCorners t.kind t.dimension s → KeepsEdges t.kind t.dimension s
-    → Corresponds t (label_count t.kind t.dimension) s.facet s.other s.same_parity label → Corresponds t (label_count t.kind t.dimension) s.other s.facet s.same_parity label
+    → Corresponds t (label_count t.kind t.dimension) s.facet s.other s.same_parity label
+        → Corresponds t (label_count t.kind t.dimension) s.other s.facet s.same_parity label
     → keeps_seam t label s ≡ true
 corresponds_kept t label s corners edges one two =
     below_each (λ m. meets_across t s label m && meets_across t s m label) 0 (label_count t.kind t.dimension) (λ m less.
@@ -221,4 +218,5 @@ corresponds_kept t label s corners edges one two =
     subst (λ k. (meets_across t s label k && meets_across t s k label) ≡ true) e
     (and_from (meets_across t s label m) (meets_across t s m label)
     (traces_meets t s label m corners edges (λ p. one m less (sym p)))
-    (traces_meets t s m label corners edges (λ p. crossed s.same_parity (trace t.kind t.dimension s.facet (entry_of t m)) (trace t.kind t.dimension s.other (entry_of t label)) (two m less p)))))
+    (traces_meets t s m label corners edges
+        (λ p. crossed s.same_parity (trace t.kind t.dimension s.facet (entry_of t m)) (trace t.kind t.dimension s.other (entry_of t label)) (two m less p)))))

@@ -2,14 +2,14 @@
 use Rattle.std.specs.Prelude.{◌≡◌, ◌≢◌, ⊤, ◌⊎◌, ℕ, ◌^◌, ◌<◌, ◌≤◌, Bool, List, [], map, length, All, slice_index_or}
 use Rattle.iso_model.specs.declared.Kind.{Kind}
 use Rattle.iso_model.specs.Cells.{facet_count, facet_corners, facet_edges, label_count}
-use Rattle.iso_model.specs.Hulls.{set_number}
 use Rattle.iso_model.specs.Tables.{Table, entry_of}
 use Rattle.face_tallies.specs.declared.faces.FaceTally.{FaceTally}
 use Rattle.seam_traces.specs.declared.facets.Facet.{Facet}
 use Rattle.seam_traces.specs.declared.facets.Seen.{Seen}
 use Rattle.seam_traces.specs.declared.facets.Seen.TheVariants.{Never, Alike, Unlike}
 use Rattle.seam_traces.specs.Traces.{places, pattern, trace}
-use Rattle.seam_traces.specs.Tallies.{tallies_in, tallies_across, TellTrace}
+use Rattle.seam_traces.specs.TallyLists.{tallies_in, tallies_across, TellTrace}
+use Rattle.lists.specs.Bits.{set_number}
 
 -- ---- one facet
 
@@ -39,7 +39,8 @@ pattern_on facet label = places facet.corners.items label
 abbrev pub tallies_on : Facet → List FaceTally → List FaceTally
 tallies_on facet tallies = tallies_in facet.edges.items tallies
 
--- what is kept of a pattern before and after one more label with it, which has these tallies in the facet: the first one's are kept, and the later ones' compared with them
+-- what is kept of a pattern before and after one more label with it, which has these tallies in the facet: the first one's are kept, and the later
+-- ones' compared with them
 abbrev pub TakesTallies : List FaceTally → Seen → List FaceTally → Seen → List FaceTally → Type 0
 TakesTallies more Never kept after now = (after ≡ Alike) × (now ≡ more)
 TakesTallies more Alike kept after now = (now ≡ kept) × (((after ≡ Alike) × (kept ≡ more)) ⊎ ((after ≡ Unlike) × (kept ≢ more)))

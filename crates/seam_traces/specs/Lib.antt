@@ -1,3 +1,3 @@
 pub mod Traces
-pub mod Tallies
+pub mod TallyLists
 pub mod Kept

@@ -2,13 +2,14 @@
 use Rattle.std.specs.Prelude.{ℕ, ℤ, ◌+◌, ◌-◌, ◌*◌, Bool, ◌&&◌, List, [], ◌∷◌, map, if◌then◌else◌}
 use Rattle.std.specs.List.{list_all}
 use Rattle.iso_model.specs.declared.Kind.{Kind}
-use Rattle.iso_model.specs.Orders.{numbers, choices}
+use Rattle.lists.specs.Orders.{numbers, choices}
 use Rattle.iso_model.specs.Turns.{signed}
-use Rattle.iso_model.specs.Cells.{is_set, facet_corners, facet_edges, label_count}
+use Rattle.iso_model.specs.Cells.{facet_corners, facet_edges, label_count}
 use Rattle.iso_model.specs.Seams.{Seam}
 use Rattle.iso_model.specs.Faces.{face_count, face_sum}
 use Rattle.iso_model.specs.Tables.{Table}
 use Rattle.iso_model.specs.Acceptance.{meets_across}
+use Rattle.lists.specs.Bits.{is_set}
 
 -- bits as a number, the first bit the lowest
 abbrev pub number_of_bits : List Bool → ℕ

@@ -1,9 +1,9 @@
 //! The members of a set, as a list and by their places in a list.
 
 ghost use Rattle.std.specs.Prelude.{◌≡◌, ℕ, ◌^◌, ◌<◌, ◌≤◌, ◌++◌, ◌∷◌, [], filter, length, All, IfOk, OnOk};
-ghost use Rattle.iso_model.specs.Orders.{numbers};
-ghost use Rattle.iso_model.specs.Cells.{is_set};
+ghost use Rattle.lists.specs.Orders.{numbers};
 ghost use Rattle.seam_traces.specs.Traces.{places};
+ghost use Rattle.lists.specs.Bits.{is_set};
 
 use edge_sets::has_member;
 use iso_base::Memory;

@@ -2,9 +2,9 @@
 
 ghost use Rattle.std.specs.Prelude.{◌≡◌, ◌↔◌, ℕ, ◌<◌, ◌≤◌, List, length, All, IfOk, IsTrue};
 ghost use Rattle.iso_model.specs.Turns.{signed};
-ghost use Rattle.iso_model.specs.Hulls.{set_number};
 ghost use Rattle.seam_traces.specs.Traces.{places};
-ghost use Rattle.seam_traces.specs.Tallies.{is_within, placed, tallies_in, tally_across, tallies_across};
+ghost use Rattle.seam_traces.specs.TallyLists.{is_within, placed, tallies_in, tally_across, tallies_across};
+ghost use Rattle.lists.specs.Bits.{set_number};
 
 use crate::places::{places_of, push};
 use face_tallies::FaceTally;

@@ -1,7 +1,7 @@
 pub mod Cramer
 pub mod Planes
 pub mod PointLaws
-pub mod RowLaws
+pub mod MatrixRows
 pub mod SpanLaws
 pub mod TurnExpr
 pub mod TurnLaws

@@ -6,6 +6,7 @@ use Rattle.polynomials.proofs.Ring.{ring, var, ◌⊕◌, ◌⊖◌, ◌⊗◌, 
 use Rattle.iso_model.specs.Turns.{turn, dot, cofactors, minus, HalfSpace, slack, IsTight, rows_to, hyper}
 use Rattle.small_turn.proofs.Cramer.{scaled, cramer_two, cramer_three, cramer_four}
 use Rattle.small_turn.proofs.TurnLaws.{turn-expand_two, turn-expand_three, turn-expand_four}
+use Rattle.polynomials.proofs.IntLaws.{sub_zero, mul-sub}
 
 -- ---- each member of a list has the length d
 
@@ -46,18 +47,21 @@ expand_four (u ∷ []) x e w l = absurd (omega arith)
 expand_four (u ∷ v ∷ []) x e w l = absurd (omega arith)
 expand_four (u ∷ v ∷ t ∷ s ∷ rs) x e w l = absurd (omega arith)
 
-rule_two : (n : List ℤ) (rows : List (List ℤ)) (x : List ℤ) → length n ≡ 2 → length rows + 1 ≡ 2 → AreWide 2 rows → length x ≡ 2 → AreUpright n rows → scaled (turn (rows ++ (x ∷ []))) n ≡ scaled (dot n x) (cofactors rows)
+rule_two : (n : List ℤ) (rows : List (List ℤ)) (x : List ℤ) → length n ≡ 2 → length rows + 1 ≡ 2 → AreWide 2 rows → length x ≡ 2 → AreUpright n rows
+    → scaled (turn (rows ++ (x ∷ []))) n ≡ scaled (dot n x) (cofactors rows)
 rule_two n (u ∷ []) x k e w l h = cramer_two n u x k w.0 l h.0
 rule_two n [] x k e w l h = absurd (omega arith)
 rule_two n (u ∷ v ∷ rs) x k e w l h = absurd (omega arith)
 
-rule_three : (n : List ℤ) (rows : List (List ℤ)) (x : List ℤ) → length n ≡ 3 → length rows + 1 ≡ 3 → AreWide 3 rows → length x ≡ 3 → AreUpright n rows → scaled (turn (rows ++ (x ∷ []))) n ≡ scaled (dot n x) (cofactors rows)
+rule_three : (n : List ℤ) (rows : List (List ℤ)) (x : List ℤ) → length n ≡ 3 → length rows + 1 ≡ 3 → AreWide 3 rows → length x ≡ 3 → AreUpright n rows
+    → scaled (turn (rows ++ (x ∷ []))) n ≡ scaled (dot n x) (cofactors rows)
 rule_three n (u ∷ v ∷ []) x k e w l h = cramer_three n u v x k w.0 w.1.0 l h.0 h.1.0
 rule_three n [] x k e w l h = absurd (omega arith)
 rule_three n (u ∷ []) x k e w l h = absurd (omega arith)
 rule_three n (u ∷ v ∷ t ∷ rs) x k e w l h = absurd (omega arith)
 
-rule_four : (n : List ℤ) (rows : List (List ℤ)) (x : List ℤ) → length n ≡ 4 → length rows + 1 ≡ 4 → AreWide 4 rows → length x ≡ 4 → AreUpright n rows → scaled (turn (rows ++ (x ∷ []))) n ≡ scaled (dot n x) (cofactors rows)
+rule_four : (n : List ℤ) (rows : List (List ℤ)) (x : List ℤ) → length n ≡ 4 → length rows + 1 ≡ 4 → AreWide 4 rows → length x ≡ 4 → AreUpright n rows
+    → scaled (turn (rows ++ (x ∷ []))) n ≡ scaled (dot n x) (cofactors rows)
 rule_four n (u ∷ v ∷ t ∷ []) x k e w l h = cramer_four n u v t x k w.0 w.1.0 w.1.1.0 l h.0 h.1.0 h.1.1.0
 rule_four n [] x k e w l h = absurd (omega arith)
 rule_four n (u ∷ []) x k e w l h = absurd (omega arith)
@@ -112,7 +116,7 @@ length-minus (x ∷ xs) (y ∷ ys) e = ap suc (length-minus xs ys (omega arith))
 
 -- ---- the half-space through D points
 
-differences-wide : (d : ℕ) (p : List ℤ) (ps : List (List ℤ)) → length p ≡ d → AreWide d ps → AreWide d (map (λ q. minus q p) ps)
+pub differences-wide : (d : ℕ) (p : List ℤ) (ps : List (List ℤ)) → length p ≡ d → AreWide d ps → AreWide d (map (λ q. minus q p) ps)
 differences-wide d p [] e w = tt
 differences-wide d p (q ∷ ps) e w = (length-minus q p (w.0 ∙ sym e) ∙ w.0, differences-wide d p ps e w.1)
 
@@ -125,11 +129,14 @@ pub hyper-turn : (d : ℕ) → TurnLaws d → (p : List ℤ) (ps : List (List �
     → dot (hyper (p ∷ ps)).normal x -ℤ (hyper (p ∷ ps)).bound ≡ turn (rows_to (p ∷ ps) x)
 hyper-turn d laws p ps x e l w k =
     sym (dot-minus (cofactors (map (λ q. minus q p) ps)) x p (k ∙ sym l))
-    ∙ sym (laws.expand (map (λ q. minus q p) ps) (minus x p) (ap (λ (m : ℕ). m + 1) (differences-length p ps) ∙ e) (differences-wide d p ps l w) (length-minus x p (k ∙ sym l) ∙ k))
+    ∙ sym
+    (laws.expand (map (λ q. minus q p) ps) (minus x p) (ap (λ (m : ℕ). m + 1) (differences-length p ps) ∙ e) (differences-wide d p ps l w)
+    (length-minus x p (k ∙ sym l) ∙ k))
 
 -- ---- a half-space that is tight at D points that span
 
-tight_upright : (h : HalfSpace) (d : ℕ) (p : List ℤ) (ps : List (List ℤ)) → length p ≡ d → AreWide d ps → IsTight h p → AreTight h ps → AreUpright h.normal (map (λ q. minus q p) ps)
+tight_upright : (h : HalfSpace) (d : ℕ) (p : List ℤ) (ps : List (List ℤ)) → length p ≡ d → AreWide d ps → IsTight h p → AreTight h ps
+    → AreUpright h.normal (map (λ q. minus q p) ps)
 tight_upright h d p [] l w t ts = tt
 tight_upright h d p (q ∷ ps) l w t ts =
     (dot-minus h.normal q p (w.0 ∙ sym l) ∙ omega (arith, ints, t, ts.0), tight_upright h d p ps l w.1 t ts.1)
@@ -139,25 +146,19 @@ pub record SamePlane (d : ℕ) (p q : ℤ) (h g : HalfSpace) : Type 0 where
   pub normals : scaled p h.normal ≡ scaled q g.normal
   pub slacks : (y : List ℤ) → p *ℤ slack h y ≡ q *ℤ slack g y
 
-slack_step : (p b m : ℤ) → p *ℤ (b -ℤ m) ≡ p *ℤ b -ℤ p *ℤ m
-slack_step p b m = ring (p ∷ b ∷ m ∷ []) (var 0 ⊗ (var 1 ⊖ var 2)) (var 0 ⊗ var 1 ⊖ var 0 ⊗ var 2) refl
-
-tight_bound : (b m : ℤ) → b -ℤ m ≡ pos 0 → b ≡ m
-tight_bound b m e = omega (arith, ints)
-
 pub tight_same : (d : ℕ) → TurnLaws d → (h : HalfSpace) (p : List ℤ) (ps : List (List ℤ)) (x : List ℤ)
     → length h.normal ≡ d → length ps + 1 ≡ d → length p ≡ d → AreWide d ps → length x ≡ d → IsTight h p → AreTight h ps
     → SamePlane d (turn (rows_to (p ∷ ps) x)) (dot h.normal (minus x p)) h (hyper (p ∷ ps))
 tight_same d laws h p ps x n e l w k t ts = record {
   normals = same;
-  slacks = λ y. slack_step f h.bound (dot h.normal y)
-      ∙ ap (λ v. f *ℤ v -ℤ f *ℤ dot h.normal y) (tight_bound h.bound (dot h.normal p) t)
+  slacks = λ y. mul-sub f h.bound (dot h.normal y)
+      ∙ ap (λ v. f *ℤ v -ℤ f *ℤ dot h.normal y) (sub_zero h.bound (dot h.normal p) t)
       ∙ ap (λ v. v -ℤ f *ℤ dot h.normal y) (sym (dot-scaled f h.normal p))
       ∙ ap (λ v. dot (scaled f h.normal) p -ℤ v) (sym (dot-scaled f h.normal y))
       ∙ ap (λ (m : List ℤ). dot m p -ℤ dot m y) same
       ∙ ap (λ v. v -ℤ dot (scaled g N) y) (dot-scaled g N p)
       ∙ ap (λ v. g *ℤ dot N p -ℤ v) (dot-scaled g N y)
-      ∙ sym (slack_step g (dot N p) (dot N y));
+      ∙ sym (mul-sub g (dot N p) (dot N y));
 }
   where
     rows : List (List ℤ)
@@ -173,4 +174,6 @@ tight_same d laws h p ps x n e l w k t ts = record {
     g = dot h.normal (minus x p)
 
     same : scaled f h.normal ≡ scaled g N
-    same = laws.cramer h.normal rows (minus x p) n (ap (λ (m : ℕ). m + 1) (differences-length p ps) ∙ e) (differences-wide d p ps l w) (length-minus x p (k ∙ sym l) ∙ k) (tight_upright h d p ps l w t ts)
+    same =
+        laws.cramer h.normal rows (minus x p) n (ap (λ (m : ℕ). m + 1) (differences-length p ps) ∙ e) (differences-wide d p ps l w)
+        (length-minus x p (k ∙ sym l) ∙ k) (tight_upright h d p ps l w t ts)

@@ -6,7 +6,7 @@ use Rattle.std.proofs.lemmas.List.{length-map}
 use Rattle.polynomials.proofs.Ring.{ring, var, ◌⊕◌, ◌⊗◌, con}
 use Rattle.iso_model.specs.Turns.{turn, dot, cofactors, minus, HasNormal, rows_to, hyper, Spans}
 use Rattle.small_turn.proofs.Planes.{TurnLaws, turn_laws, AreWide, hyper-turn, dot-minus}
-use Rattle.iso_model.specs.Orders.{numbers}
+use Rattle.lists.specs.Orders.{numbers}
 use Rattle.std.proofs.lemmas.List.FromFn.{length-range_with_len}
 
 -- ---- a product that is not 0 has a factor that is not 0
@@ -67,7 +67,12 @@ normal_spans : (d : ℕ) → TurnLaws d → (p : List ℤ) (ps : List (List ℤ)
 normal_spans d laws p ps e l w a = (
   set p a.0 (get_or p a.0 (pos 0) +ℤ pos 1),
   length-set p a.0 _ ∙ l ∙ sym e ∙ omega arith,
-  λ z. a.4 (sym a.3 ∙ default_same N a.0 a.1 (pos 0) a.2 ∙ cancelled (dot N p) _ (get_or N a.0 (pos 0)) (ap (λ (v : ℤ). v -ℤ dot N p) (sym (dot-step N p a.0 (n ∙ sym l) a.2)) ∙ hyper-turn d laws p ps _ e l w (length-set p a.0 _ ∙ l)) z),
+  λ z.
+      a.4
+      (sym a.3 ∙ default_same N a.0 a.1 (pos 0) a.2
+      ∙ cancelled (dot N p) _ (get_or N a.0 (pos 0))
+      (ap (λ (v : ℤ). v -ℤ dot N p) (sym (dot-step N p a.0 (n ∙ sym l) a.2)) ∙ hyper-turn d laws p ps _ e l w (length-set p a.0 _ ∙ l))
+      z),
 )
   where
     N : List ℤ
@@ -76,7 +81,8 @@ normal_spans d laws p ps e l w a = (
     n : length N ≡ d
     n = length-cofactors (map (λ q. minus q p) ps) ∙ ap (λ (m : ℕ). m + 1) (length-map ps (λ q. minus q p)) ∙ e
 
-spans_normal : (d : ℕ) → TurnLaws d → (p : List ℤ) (ps : List (List ℤ)) → length ps + 1 ≡ d → length p ≡ d → AreWide d ps → Spans (p ∷ ps) → HasNormal (hyper (p ∷ ps))
+spans_normal : (d : ℕ) → TurnLaws d → (p : List ℤ) (ps : List (List ℤ)) → length ps + 1 ≡ d → length p ≡ d → AreWide d ps → Spans (p ∷ ps)
+    → HasNormal (hyper (p ∷ ps))
 spans_normal d laws p ps e l w s =
     dot-not_zero N (minus s.0 p) (λ z. s.2 (sym (hyper-turn d laws p ps s.0 e l w k) ∙ sym (dot-minus N s.0 p (k ∙ sym l)) ∙ z))
   where
@@ -97,7 +103,8 @@ pub record PlaneFacts (d : ℕ) (n : List ℤ) (b : ℤ) (ps : List (List ℤ)) 
   pub turns : (x : List ℤ) → length x ≡ d → dot n x -ℤ b ≡ turn (rows_to ps x)
   pub spans : HasNormal (record { normal = n; bound = b }) ↔ Spans ps
 
-pub plane_facts : (d c : ℕ) → 2 ≤ d → d ≤ 4 → c ≡ d → (n : List ℤ) (b : ℤ) (p : List ℤ) (ps : List (List ℤ)) → n ≡ (hyper (p ∷ ps)).normal → b ≡ (hyper (p ∷ ps)).bound
+pub plane_facts : (d c : ℕ) → 2 ≤ d → d ≤ 4 → c ≡ d → (n : List ℤ) (b : ℤ) (p : List ℤ) (ps : List (List ℤ)) → n ≡ (hyper (p ∷ ps)).normal
+    → b ≡ (hyper (p ∷ ps)).bound
     → length ps + 1 ≡ d → length p ≡ d → AreWide d ps → PlaneFacts c n b (p ∷ ps)
 plane_facts d c least greatest same n b p ps en eb e l w = record {
   turns = λ x k. ap (λ (m : List ℤ). dot m x -ℤ b) en ∙ ap (λ (v : ℤ). dot (hyper (p ∷ ps)).normal x -ℤ v) eb

@@ -1,7 +1,7 @@
 -- The expressions of which turns and products are the values, for the ring solver.
 use Rattle.std.specs.Prelude.{ℕ, ◌+◌, pos, List, [], ◌∷◌, map, length, get_or, Bool, if◌then◌else◌}
 use Rattle.polynomials.proofs.Ring.{Expr, con, ◌⊕◌, ◌⊖◌, ◌⊗◌, neg}
-use Rattle.iso_model.specs.Orders.{orders, is_odd, is_odd_order, numbers, without}
+use Rattle.lists.specs.Orders.{orders, is_odd, is_odd_order, numbers, without}
 
 abbrev pub total : List Expr → Expr
 total [] = con (pos 0)

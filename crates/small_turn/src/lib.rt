@@ -7,13 +7,14 @@
 //! For proofs above this crate: `proofs/TurnLaws` has the expansion along the last row, `proofs/TurnExpr` writes a
 //! turn as an expression for the solver of `polynomials`, `proofs/Planes` has `turn_laws` (expansion and Cramer's
 //! rule for each dimension) with what follows for half-spaces through D points, `proofs/SpanLaws` says when such
-//! points span a hyperplane, and `proofs/RowLaws` bounds products of rows.
+//! points span a hyperplane, and `proofs/MatrixRows` bounds products of rows.
 #![tactic(auto)]
 
 ghost use Rattle.std.specs.Prelude.{◌≡◌, ◌↔◌, ◌+◌, ◌-◌, ◌*◌, ◌^◌, ◌<◌, ◌≤◌, ℤ, List, pos, negsuc, ◌+ℤ◌, ◌*ℤ◌, ◌-ℤ◌, neg_ℤ, ◌∷◌, [], All, length};
-ghost use Rattle.iso_model.specs.Orders.{without};
+ghost use Rattle.lists.specs.Orders.{without};
 ghost use Rattle.iso_model.specs.Turns.{turn, dot, cofactors, minus, hyper, rows_to, HasNormal, Spans};
 ghost use Rattle.polynomials.specs.Small.{IsSmall, AreSmall};
+ghost use Rattle.small_turn.specs.Planes.{TurnsTo, HasNormalWhereSpan};
 
 /// The inner product of two rows: the sum of the products, place by place. The rows have at most four numbers, those
 /// of the first at most 2^40 in size, those of the second from -64 to 64.
@@ -226,8 +227,8 @@ fn plane_of_two<const D: usize>(p: &[i64; 2], q: &[i64; 2]) -> HalfSpace<D>
     requires q_small { AreSmall 32 q.now }
     ensures normal { result.normal ≡ (hyper (p.now ∷ q.now ∷ [])).normal }
     ensures bound { result.bound ≡ (hyper (p.now ∷ q.now ∷ [])).bound }
-    ensures turns { (x : List ℤ) → length x ≡ D → dot result.normal x -ℤ result.bound ≡ turn (rows_to (p.now ∷ q.now ∷ []) x) }
-    ensures spans { HasNormal (record { normal = result.normal; bound = result.bound }) ↔ Spans (p.now ∷ q.now ∷ []) }
+    ensures turns { TurnsTo D (p.now ∷ q.now ∷ []) result.normal result.bound }
+    ensures spans { HasNormalWhereSpan (p.now ∷ q.now ∷ []) result.normal result.bound }
     ensures coefficients { AreSmall (2 ^ 21) result.normal }
     ensures constant { IsSmall (2 ^ 28) result.bound }
 {
@@ -242,8 +243,8 @@ fn plane_of_three<const D: usize>(p: &[i64; 3], q: &[i64; 3], r: &[i64; 3]) -> H
     requires r_small { AreSmall 32 r.now }
     ensures normal { result.normal ≡ (hyper (p.now ∷ q.now ∷ r.now ∷ [])).normal }
     ensures bound { result.bound ≡ (hyper (p.now ∷ q.now ∷ r.now ∷ [])).bound }
-    ensures turns { (x : List ℤ) → length x ≡ D → dot result.normal x -ℤ result.bound ≡ turn (rows_to (p.now ∷ q.now ∷ r.now ∷ []) x) }
-    ensures spans { HasNormal (record { normal = result.normal; bound = result.bound }) ↔ Spans (p.now ∷ q.now ∷ r.now ∷ []) }
+    ensures turns { TurnsTo D (p.now ∷ q.now ∷ r.now ∷ []) result.normal result.bound }
+    ensures spans { HasNormalWhereSpan (p.now ∷ q.now ∷ r.now ∷ []) result.normal result.bound }
     ensures coefficients { AreSmall (2 ^ 21) result.normal }
     ensures constant { IsSmall (2 ^ 28) result.bound }
 {
@@ -264,8 +265,8 @@ fn plane_of_four<const D: usize>(
     requires s_small { AreSmall 32 s.now }
     ensures normal { result.normal ≡ (hyper (p.now ∷ q.now ∷ r.now ∷ s.now ∷ [])).normal }
     ensures bound { result.bound ≡ (hyper (p.now ∷ q.now ∷ r.now ∷ s.now ∷ [])).bound }
-    ensures turns { (x : List ℤ) → length x ≡ D → dot result.normal x -ℤ result.bound ≡ turn (rows_to (p.now ∷ q.now ∷ r.now ∷ s.now ∷ []) x) }
-    ensures spans { HasNormal (record { normal = result.normal; bound = result.bound }) ↔ Spans (p.now ∷ q.now ∷ r.now ∷ s.now ∷ []) }
+    ensures turns { TurnsTo D (p.now ∷ q.now ∷ r.now ∷ s.now ∷ []) result.normal result.bound }
+    ensures spans { HasNormalWhereSpan (p.now ∷ q.now ∷ r.now ∷ s.now ∷ []) result.normal result.bound }
     ensures coefficients { AreSmall (2 ^ 21) result.normal }
     ensures constant { IsSmall (2 ^ 28) result.bound }
 {
@@ -283,8 +284,8 @@ pub fn hyper<const D: usize>(points: &[[i32; D]; D]) -> HalfSpace<D>
     requires small { All (λ p. AreSmall 32 p) points.now }
     ensures normal { result.normal ≡ (hyper points.now).normal }
     ensures bound { result.bound ≡ (hyper points.now).bound }
-    ensures turns { (x : List ℤ) → length x ≡ D → dot result.normal x -ℤ result.bound ≡ turn (rows_to points.now x) }
-    ensures spans { HasNormal (record { normal = result.normal; bound = result.bound }) ↔ Spans points.now }
+    ensures turns { TurnsTo D points.now result.normal result.bound }
+    ensures spans { HasNormalWhereSpan points.now result.normal result.bound }
     ensures coefficients { AreSmall (2 ^ 21) result.normal }
     ensures constant { IsSmall (2 ^ 28) result.bound }
 {

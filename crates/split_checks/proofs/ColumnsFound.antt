@@ -1,7 +1,7 @@
 -- Each rank of each kind is the canonical cell, its axes in another order.
 use Rattle.std.proofs.Common.{◌≡◌, true, refl}
 use Rattle.iso_model.specs.declared.Kind.TheVariants.{Cube, Simplex, Pyramid}
-use Rattle.iso_model.specs.Orders.{numbers}
+use Rattle.lists.specs.Orders.{numbers}
 use Rattle.split_checks.specs.ColumnTests.{all_placed}
 
 pub squares_placed : all_placed Cube 2 (numbers 1) ≡ true

@@ -1,7 +1,7 @@
 -- The tests of corners, sides and edges of each kind, passed.
 use Rattle.std.proofs.Common.{◌≡◌, true, refl}
 use Rattle.iso_model.specs.declared.Kind.TheVariants.{Cube, Simplex, Pyramid}
-use Rattle.iso_model.specs.Orders.{numbers}
+use Rattle.lists.specs.Orders.{numbers}
 use Rattle.split_checks.specs.CornerTests.{all_corners_fit}
 
 pub squares_fit : all_corners_fit Cube 2 (numbers 1) ≡ true

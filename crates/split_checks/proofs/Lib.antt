@@ -2,3 +2,5 @@ pub mod SharesFound
 pub mod AcrossFound
 pub mod CornersFound
 pub mod ColumnsFound
+pub mod RingsFound
+pub mod WaysFound

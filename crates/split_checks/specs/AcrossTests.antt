@@ -1,15 +1,16 @@
 -- What stands across a facet, tested for each facet of each cell of a cube.
-use Rattle.std.specs.Prelude.{ℕ, ◌+◌, ◌-◌, ◌*◌, ◌%◌, ◌==◌, nat_lt, Bool, true, false, not, ◌&&◌, ◌||◌, List, [], ◌∷◌, ◌++◌, map, take, drop, slice_index, slice_index_or, if◌then◌else◌}
+use Rattle.std.specs.Prelude.{ℕ, ◌+◌, ◌-◌, ◌*◌, ◌%◌, ◌==◌, nat_lt, Bool, true, false, not, ◌&&◌, ◌||◌, List, [], ◌∷◌, ◌++◌, map, take, drop}
+use Rattle.std.specs.Prelude.{slice_index, slice_index_or, if◌then◌else◌}
 use Rattle.std.specs.List.{list_all, list_any, position_or_len}
 use Rattle.iso_model.specs.declared.Kind.{Kind}
 use Rattle.iso_model.specs.declared.Kind.TheVariants.{Cube, Simplex, Pyramid}
-use Rattle.iso_model.specs.Orders.{numbers, orders, same_list}
+use Rattle.lists.specs.Orders.{numbers, orders, same_list}
 use Rattle.iso_model.specs.Points.{axes}
 use Rattle.iso_model.specs.Cells.{facet_count, facet_corners}
 use Rattle.iso_model.specs.Seams.{Seam, seams, corner_across}
 use Rattle.iso_model.specs.Splits.{cells_per_cube, corner_offset, is_odd_rank}
 use Rattle.iso_model.specs.Neighbours.{facet_offsets}
-use Rattle.split_checks.specs.Moves.{meets, move_to, stays, same_places}
+use Rattle.split_checks.specs.CubeShifts.{meets, move_to, stays, same_places}
 
 -- ---- the rank and the facet across
 
@@ -70,7 +71,8 @@ all_known r f next move here first o g there = list_all (λ q. is_known r f next
 -- the facet across is another one at the same points, of another cell, and this one is across it, by the move back
 abbrev pub is_across : ℕ → ℕ → ℕ → ℕ × ℕ → List ℕ → List (List ℕ) → List (List ℕ) → Bool
 is_across d r f next move here there =
-    not ((next.0 == r) && (next.1 == f)) && not ((next.0 == r) && stays move) && same_places move here there && same_list (map (λ m. 2 - m) move) (move_across d there)
+    not ((next.0 == r) && (next.1 == f)) && not ((next.0 == r) && stays move) && same_places move here there
+    && same_list (map (λ m. 2 - m) move) (move_across d there)
 
 abbrev pub across_at : ℕ → List (List (List (List ℕ))) → ℕ → ℕ → ℕ → ℕ → ℕ × ℕ → List ℕ → List (List ℕ) → Bool
 across_at d all ranks facets r f next move here =
@@ -113,7 +115,11 @@ joins kind d r f n move s =
 -- a seam joins them, read in one of its two directions
 abbrev pub are_joined : Kind → ℕ → ℕ → ℕ → ℕ × ℕ → Bool
 are_joined kind d r f n =
-    list_any (λ s. joins kind d r f n (move_across d (facet_offsets kind d r f)) s || joins kind d n.0 n.1 (r, f) (move_across d (facet_offsets kind d n.0 n.1)) s) (seams kind d)
+    list_any
+    (λ s.
+    joins kind d r f n (move_across d (facet_offsets kind d r f)) s
+    || joins kind d n.0 n.1 (r, f) (move_across d (facet_offsets kind d n.0 n.1)) s)
+    (seams kind d)
 
 abbrev pub joined_with : Kind → ℕ → List (List (ℕ × ℕ)) → ℕ → Bool
 joined_with kind d next r = list_all (λ f. are_joined kind d r f (next_at next r f)) (numbers (facet_count kind d))

@@ -1,10 +1,11 @@
 -- A cell of a cube is the canonical cell with its axes in another order, some of them reversed. Tested for each rank:
 -- that it is, and that the order and the reversals together have the parity of the rank.
-use Rattle.std.specs.Prelude.{ℕ, ◌-◌, ◌==◌, nat_lt, nat_le, nat_eq, Bool, true, false, not, ◌&&◌, List, [], ◌∷◌, map, length, Option, Some, None, slice_index, slice_index_or, if◌then◌else◌}
+use Rattle.std.specs.Prelude.{ℕ, ◌-◌, ◌==◌, nat_lt, nat_le, nat_eq, Bool, true, false, not, ◌&&◌, List, [], ◌∷◌, map, length, Option, Some, None}
+use Rattle.std.specs.Prelude.{slice_index, slice_index_or, if◌then◌else◌}
 use Rattle.std.specs.List.{list_all, position_or_len}
 use Rattle.iso_model.specs.declared.Kind.{Kind}
 use Rattle.iso_model.specs.declared.Kind.TheVariants.{Cube, Simplex, Pyramid}
-use Rattle.iso_model.specs.Orders.{numbers, orders, is_odd_order, same_list}
+use Rattle.lists.specs.Orders.{numbers, orders, is_odd_order, same_list}
 use Rattle.iso_model.specs.Points.{axes, point}
 use Rattle.iso_model.specs.Cells.{corner_count, corner_point}
 use Rattle.iso_model.specs.Splits.{axis_order, base_axis, base_side, corner_offset, is_odd_rank}
@@ -74,7 +75,8 @@ abbrev pub are_axes : ℕ → List ℕ → Bool
 are_axes d cols = (length cols == d) && list_all (λ j. nat_lt j d) cols
 
 abbrev pub is_placed : Kind → ℕ → ℕ → List ℕ → List Bool → Bool → Bool
-is_placed kind d rank cols revs odd = are_axes d cols && list_all (keeps_corner kind d rank cols revs) (numbers (corner_count kind d)) && turns_well d cols revs odd
+is_placed kind d rank cols revs odd =
+    are_axes d cols && list_all (keeps_corner kind d rank cols revs) (numbers (corner_count kind d)) && turns_well d cols revs odd
 
 abbrev pub is_placed_rank : Kind → ℕ → ℕ → Bool
 is_placed_rank kind d rank = is_placed kind d rank (columns kind d rank) (reversed kind d rank) (is_odd_rank kind d rank)

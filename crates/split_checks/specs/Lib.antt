@@ -1,5 +1,7 @@
-pub mod Moves
+pub mod CubeShifts
 pub mod ShareTests
 pub mod AcrossTests
 pub mod CornerTests
 pub mod ColumnTests
+pub mod RingTests
+pub mod WayTests

@@ -2,11 +2,11 @@
 use Rattle.std.specs.Prelude.{ℕ, ◌==◌, Bool, true, false, not, ◌&&◌, ◌||◌, List, [], ◌∷◌, map, filter, slice_index_or}
 use Rattle.std.specs.List.{list_all, list_any}
 use Rattle.iso_model.specs.declared.Kind.{Kind}
-use Rattle.iso_model.specs.Orders.{numbers}
+use Rattle.lists.specs.Orders.{numbers}
 use Rattle.iso_model.specs.Cells.{corner_count, facet_count}
 use Rattle.iso_model.specs.Splits.{cells_per_cube}
 use Rattle.iso_model.specs.SplitLaws.{facets_over}
-use Rattle.split_checks.specs.Moves.{meets, move_to, stays, offsets, facet_of, same_places}
+use Rattle.split_checks.specs.CubeShifts.{meets, move_to, stays, offsets, facet_of, same_places}
 
 -- corner k of the cell is a corner of the moved cell
 abbrev pub is_common : List (List ℕ) → List ℕ → List (List ℕ) → ℕ → Bool
@@ -33,7 +33,8 @@ shares_with kind d same_rank cell other =
 
 -- the cell of this rank and each other one
 abbrev pub shares_of : Kind → ℕ → List (List (List ℕ)) → ℕ → Bool
-shares_of kind d all rank = list_all (λ r. shares_with kind d (rank == r) (slice_index_or all rank []) (slice_index_or all r [])) (numbers (cells_per_cube kind d))
+shares_of kind d all rank =
+    list_all (λ r. shares_with kind d (rank == r) (slice_index_or all rank []) (slice_index_or all r [])) (numbers (cells_per_cube kind d))
 
 -- the offsets of all cells of a cube, by their ranks
 abbrev pub all_offsets : Kind → ℕ → List (List (List ℕ))

@@ -1,15 +1,15 @@
 -- Points by their coordinates, the cubes of a grid by their places, and points of two cubes that touch.
 use Rattle.std.proofs.Common.{◌≡◌, ℕ, zero, suc, ◌+◌, ◌-◌, ◌*◌, ◌<◌, true, List, [], ◌∷◌, length, refl, ap, sym, ◌∙◌, arith}
 use Rattle.std.specs.Prelude.{◌/◌, ◌%◌, ◌==◌, slice_index}
-use Rattle.std.proofs.lemmas.Bool.{eqb-true}
+use Rattle.std.proofs.lemmas.Bool.{eqb-true, and_from}
 use Rattle.std.proofs.lemmas.Bool.Decides.{nat_tests}
 use Rattle.std.proofs.lemmas.List.FromFn.{get_or-map-range_with_len, length-map-range_with_len}
 use Rattle.std.proofs.Math.Nat.{div-lt_iff_lt-mul, mul_comm}
 use Rattle.iso_model.specs.declared.Kind.{Kind}
 use Rattle.iso_model.specs.Points.{point}
 use Rattle.iso_model.specs.Splits.{cells_per_cube, cell_count, cube_count, cube_at, cube_of, rank_of}
-use Rattle.split_checks.specs.Moves.{meets, move_to}
-use Rattle.split_laws.proofs.Members.{and_left, and_right, both}
+use Rattle.split_checks.specs.CubeShifts.{meets, move_to}
+use Rattle.lists.proofs.Tests.{and_left, and_right}
 
 -- a coordinate of a point that is given by its coordinates
 pub coordinate : (d : ℕ) (f : ℕ → ℕ) (i : ℕ) → i < d → slice_index (point d f) i ≡ f i
@@ -52,7 +52,8 @@ pub cube_number : (sizes : List ℕ) (c d : ℕ) → c < cube_count sizes → d 
 cube_number [] c d hc hd e = omega (arith, hc, hd)
 cube_number (n ∷ sizes) c d hc hd e =
     digits_fix (n - 1) (cube_count sizes) c d hc hd (ap first e)
-    (cube_number sizes (c / (n - 1)) (d / (n - 1)) (quotient_below (n - 1) (cube_count sizes) c hc) (quotient_below (n - 1) (cube_count sizes) d hd) (ap others e))
+    (cube_number sizes (c / (n - 1)) (d / (n - 1)) (quotient_below (n - 1) (cube_count sizes) c hc) (quotient_below (n - 1) (cube_count sizes) d hd)
+    (ap others e))
   where
     first : List ℕ → ℕ
     first [] = 0
@@ -76,13 +77,19 @@ pub rank_below : (kind : Kind) (sizes : List ℕ) (c : ℕ) → 0 < cells_per_cu
 rank_below kind sizes c some = omega (arith, some)
 
 pub cube_in : (kind : Kind) (sizes : List ℕ) (c : ℕ) → c < cell_count kind sizes → c / cells_per_cube kind (length sizes) < cube_count sizes
-cube_in kind sizes c h = quotient_below (cells_per_cube kind (length sizes)) (cube_count sizes) c (omega (arith, h, mul_comm (cube_count sizes) (cells_per_cube kind (length sizes))))
+cube_in kind sizes c h =
+    quotient_below (cells_per_cube kind (length sizes)) (cube_count sizes) c
+    (omega (arith, h, mul_comm (cube_count sizes) (cells_per_cube kind (length sizes))))
 
 -- a cell is fixed by its cube and its rank
-pub cell_fixed : (kind : Kind) (sizes : List ℕ) (c e : ℕ) → c < cell_count kind sizes → e < cell_count kind sizes → cube_of kind sizes c ≡ cube_of kind sizes e → rank_of kind sizes c ≡ rank_of kind sizes e → c ≡ e
+pub cell_fixed : (kind : Kind) (sizes : List ℕ) (c e : ℕ) → c < cell_count kind sizes → e < cell_count kind sizes
+    → cube_of kind sizes c ≡ cube_of kind sizes e → rank_of kind sizes c ≡ rank_of kind sizes e → c ≡ e
 cell_fixed kind sizes c e hc he same_cube same_rank =
-    digits_fix (cells_per_cube kind (length sizes)) (cube_count sizes) c e (omega (arith, hc, mul_comm (cube_count sizes) (cells_per_cube kind (length sizes)))) (omega (arith, he, mul_comm (cube_count sizes) (cells_per_cube kind (length sizes)))) same_rank
-    (cube_number sizes (c / cells_per_cube kind (length sizes)) (e / cells_per_cube kind (length sizes)) (cube_in kind sizes c hc) (cube_in kind sizes e he) same_cube)
+    digits_fix (cells_per_cube kind (length sizes)) (cube_count sizes) c e
+    (omega (arith, hc, mul_comm (cube_count sizes) (cells_per_cube kind (length sizes))))
+    (omega (arith, he, mul_comm (cube_count sizes) (cells_per_cube kind (length sizes)))) same_rank
+    (cube_number sizes (c / cells_per_cube kind (length sizes)) (e / cells_per_cube kind (length sizes)) (cube_in kind sizes c hc)
+    (cube_in kind sizes e he) same_cube)
 
 -- ---- points that meet
 
@@ -115,7 +122,7 @@ meets_from (x ∷ xs) [] ys h = absurd (omega (arith, h.moves))
 meets_from (x ∷ xs) (m ∷ ms) [] h = absurd (omega (arith, h.others))
 meets_from (x ∷ xs) (m ∷ ms) (y ∷ ys) h =
     let first : x + 2 ≡ 2 * m + y = h.same 0 (omega arith) in
-    both (x + 2 == 2 * m + y) (meets xs ms ys) (grind (arith, nat_tests, first))
+    and_from (x + 2 == 2 * m + y) (meets xs ms ys) (grind (arith, nat_tests, first))
     (meets_from xs ms ys (record { moves = omega (arith, h.moves); others = omega (arith, h.others); same = λ i q. h.same (suc i) (omega (arith, q)) }))
 
 pub length-move_to : (xs ys : List ℕ) → length ys ≡ length xs → length (move_to xs ys) ≡ length xs
@@ -123,7 +130,8 @@ length-move_to [] ys e = refl
 length-move_to (x ∷ xs) [] e = absurd (omega (arith, e))
 length-move_to (x ∷ xs) (y ∷ ys) e = ap suc (length-move_to xs ys (omega (arith, e)))
 
-pub move_to_at : (xs ys : List ℕ) → length ys ≡ length xs → (i : ℕ) → i < length xs → slice_index (move_to xs ys) i ≡ (slice_index xs i + 2 - slice_index ys i) / 2
+pub move_to_at : (xs ys : List ℕ) → length ys ≡ length xs → (i : ℕ) → i < length xs
+    → slice_index (move_to xs ys) i ≡ (slice_index xs i + 2 - slice_index ys i) / 2
 move_to_at [] ys e i h = absurd (omega (arith, h))
 move_to_at (x ∷ xs) [] e i h = absurd (omega (arith, e))
 move_to_at (x ∷ xs) (y ∷ ys) e zero h = refl

@@ -1,4 +1,3 @@
-pub mod Members
 pub mod Coordinates
 pub mod Offsets
 pub mod Placement

@@ -2,15 +2,17 @@
 use Rattle.std.proofs.Common.{◌≡◌, ℕ, zero, suc, ◌+◌, ◌*◌, ◌<◌, ◌≤◌, true, List, [], ◌∷◌, length, refl, ap, sym, ◌∙◌, subst, arith, inl, inr}
 use Rattle.std.specs.Prelude.{◌/◌, ◌==◌, slice_index, slice_index_or, map}
 use Rattle.std.specs.List.{list_all, list_any}
-use Rattle.std.proofs.lemmas.Bool.{eqb-true}
+use Rattle.std.proofs.lemmas.Bool.{eqb-true, and_from}
 use Rattle.iso_model.specs.declared.Kind.{Kind}
 use Rattle.iso_model.specs.Cells.{corner_count, facet_corners}
 use Rattle.iso_model.specs.Splits.{cells_per_cube, corner_offset, cube_of, rank_of, corner}
 use Rattle.iso_model.specs.Neighbours.{facet_points, SamePoints, facet_offsets}
-use Rattle.split_checks.specs.Moves.{meets, move_to, stays, offsets, facet_of, same_places}
-use Rattle.split_laws.proofs.Members.{and_left, and_right, both, In, In_from, Contains_from, In-map, from_In-map, from_any, any_from, all_In, all_from, at_numbers}
+use Rattle.split_checks.specs.CubeShifts.{meets, move_to, stays, offsets, facet_of, same_places}
 use Rattle.split_laws.proofs.Coordinates.{coordinate, length-cube_at, lists_same, points_same, rank_below, meet_from, meets_from, length-move_to, move_to_at}
 use Rattle.split_laws.proofs.Offsets.{OffsetsFit, in_facet}
+use Rattle.lists.specs.Members.{In}
+use Rattle.lists.proofs.MemberLaws.{In_from, Contains_from, In-map, from_In-map, from_any, any_from, all_In, all_from, at_numbers}
+use Rattle.lists.proofs.Tests.{and_left, and_right}
 
 pub map_same : {X : Type 0} (f g : ℕ → X) (xs : List ℕ) → ((x : ℕ) → In x xs → f x ≡ g x) → map f xs ≡ map g xs
 map_same f g [] same = refl
@@ -34,7 +36,8 @@ module _ (kind : Kind) (sizes : List ℕ) (fit : OffsetsFit kind (length sizes))
   pub below : (c : ℕ) → rank_of kind sizes c < cells_per_cube kind (length sizes)
   below c = rank_below kind sizes c fit.some_rank
 
-  pub coordinate_of : (c k i : ℕ) → i < length sizes → slice_index (corner kind sizes c k) i ≡ 2 * slice_index (cube_of kind sizes c) i + slice_index (offset c k) i
+  pub coordinate_of : (c k i : ℕ) → i < length sizes
+      → slice_index (corner kind sizes c k) i ≡ 2 * slice_index (cube_of kind sizes c) i + slice_index (offset c k) i
   coordinate_of c k i h = coordinate (length sizes) (λ j. 2 * slice_index (cube_of kind sizes c) j + slice_index (offset c k) j) i h
 
   pub long_offset : (c k : ℕ) → k < corner_count kind (length sizes) → length (offset c k) ≡ length sizes
@@ -55,26 +58,38 @@ module _ (kind : Kind) (sizes : List ℕ) (fit : OffsetsFit kind (length sizes))
         let as_long : length (offset e l) ≡ length (offset c k) = long_offset e l hl ∙ sym (long_offset c k hk) in
         record {
           long = length-move_to (offset c k) (offset e l) as_long ∙ long_offset c k hk;
-          at = λ i h. omega (arith, balance k l same i h, small_offset c k i hk, small_offset e l i hl, move_to_at (offset c k) (offset e l) as_long i (omega (arith, h, long_offset c k hk)));
+          at =
+              λ i h.
+              omega (
+                arith,
+                balance k l same i h,
+                small_offset c k i hk,
+                small_offset e l i hl,
+                move_to_at (offset c k) (offset e l) as_long i (omega (arith, h, long_offset c k hk)),
+              );
         }
 
     module _ (ms : List ℕ) (moved : Moved kind sizes c e ms) where
-      pub meet_where_same : (k l : ℕ) → k < corner_count kind (length sizes) → l < corner_count kind (length sizes) → corner kind sizes c k ≡ corner kind sizes e l → meets (offset c k) ms (offset e l) ≡ true
+      pub meet_where_same : (k l : ℕ) → k < corner_count kind (length sizes) → l < corner_count kind (length sizes)
+          → corner kind sizes c k ≡ corner kind sizes e l → meets (offset c k) ms (offset e l) ≡ true
       meet_where_same k l hk hl same = meets_from (offset c k) ms (offset e l) (record {
         moves = moved.long ∙ sym (long_offset c k hk);
         others = long_offset e l hl ∙ sym (long_offset c k hk);
         same = λ i h. let in_axes : i < length sizes = omega (arith, h, long_offset c k hk) in omega (arith, balance k l same i in_axes, moved.at i in_axes);
       })
 
-      pub same_where_meet : (k l : ℕ) → k < corner_count kind (length sizes) → l < corner_count kind (length sizes) → meets (offset c k) ms (offset e l) ≡ true → corner kind sizes c k ≡ corner kind sizes e l
+      pub same_where_meet : (k l : ℕ) → k < corner_count kind (length sizes) → l < corner_count kind (length sizes)
+          → meets (offset c k) ms (offset e l) ≡ true → corner kind sizes c k ≡ corner kind sizes e l
       same_where_meet k l hk hl h =
           let met = meet_from (offset c k) ms (offset e l) h in
-          points_same (length sizes) (λ j. 2 * slice_index (cube_of kind sizes c) j + slice_index (offset c k) j) (λ j. 2 * slice_index (cube_of kind sizes e) j + slice_index (offset e l) j)
+          points_same (length sizes) (λ j. 2 * slice_index (cube_of kind sizes c) j + slice_index (offset c k) j)
+          (λ j. 2 * slice_index (cube_of kind sizes e) j + slice_index (offset e l) j)
           (λ i in_axes. omega (arith, met.same i (omega (arith, in_axes, long_offset c k hk)), moved.at i in_axes))
 
       pub stands_there : stays ms ≡ true → cube_of kind sizes c ≡ cube_of kind sizes e
       stands_there h =
-          lists_same (cube_of kind sizes c) (cube_of kind sizes e) (length-cube_at sizes (c / cells_per_cube kind (length sizes)) ∙ sym (length-cube_at sizes (e / cells_per_cube kind (length sizes)))) (λ i q.
+          lists_same (cube_of kind sizes c) (cube_of kind sizes e)
+          (length-cube_at sizes (c / cells_per_cube kind (length sizes)) ∙ sym (length-cube_at sizes (e / cells_per_cube kind (length sizes)))) (λ i q.
           let in_axes : i < length sizes = omega (arith, q, length-cube_at sizes (c / cells_per_cube kind (length sizes))) in
           omega (arith, moved.at i in_axes, one_at ms h i (omega (arith, moved.long, in_axes))))
         where
@@ -96,33 +111,63 @@ module _ (kind : Kind) (sizes : List ℕ) (fit : OffsetsFit kind (length sizes))
           λ has.
               let k = from_In-map (corner kind sizes c) (facet_corners kind (length sizes) f) p (In_from (facet_points kind sizes c f) p has) in
               let k_in = in_facet kind (length sizes) f k.0 k.1 in
-              let q = from_any (λ y. meets (offset c k.0) ms y) there (all_In (λ x. list_any (λ y. meets x ms y) there) here (and_left (list_all (λ x. list_any (λ y. meets x ms y) there) here) (list_all (λ y. list_any (λ x. meets x ms y) here) there) h) (offset c k.0) (In-map (corner_offset kind (length sizes) (rank_of kind sizes c)) (facet_corners kind (length sizes) f) k.0 k.1)) in
+              let q =
+              from_any (λ y. meets (offset c k.0) ms y) there
+              (all_In (λ x. list_any (λ y. meets x ms y) there) here
+              (and_left (list_all (λ x. list_any (λ y. meets x ms y) there) here)
+              (list_all (λ y. list_any (λ x. meets x ms y) here) there) h)
+              (offset c k.0)
+              (In-map (corner_offset kind (length sizes) (rank_of kind sizes c)) (facet_corners kind (length sizes) f) k.0 k.1)) in
               let l = from_In-map (corner_offset kind (length sizes) (rank_of kind sizes e)) (facet_corners kind (length sizes) g) q.0 q.1 in
               let met : meets (offset c k.0) ms (offset e l.0) ≡ true = subst (λ (y : List ℕ). meets (offset c k.0) ms y ≡ true) l.2 q.2 in
               let same : corner kind sizes e l.0 ≡ p = sym (same_where_meet k.0 l.0 k_in.0 (in_facet kind (length sizes) g l.0 l.1).0 met) ∙ sym k.2 in
-              Contains_from (facet_points kind sizes e g) p (subst (λ (x : List ℕ). In x (facet_points kind sizes e g)) same (In-map (corner kind sizes e) (facet_corners kind (length sizes) g) l.0 l.1)),
+              Contains_from (facet_points kind sizes e g) p
+              (subst (λ (x : List ℕ). In x (facet_points kind sizes e g)) same
+              (In-map (corner kind sizes e) (facet_corners kind (length sizes) g) l.0 l.1)),
           λ has.
               let l = from_In-map (corner kind sizes e) (facet_corners kind (length sizes) g) p (In_from (facet_points kind sizes e g) p has) in
               let l_in = in_facet kind (length sizes) g l.0 l.1 in
-              let q = from_any (λ x. meets x ms (offset e l.0)) here (all_In (λ y. list_any (λ x. meets x ms y) here) there (and_right (list_all (λ x. list_any (λ y. meets x ms y) there) here) (list_all (λ y. list_any (λ x. meets x ms y) here) there) h) (offset e l.0) (In-map (corner_offset kind (length sizes) (rank_of kind sizes e)) (facet_corners kind (length sizes) g) l.0 l.1)) in
+              let q =
+              from_any (λ x. meets x ms (offset e l.0)) here
+              (all_In (λ y. list_any (λ x. meets x ms y) here) there
+              (and_right (list_all (λ x. list_any (λ y. meets x ms y) there) here)
+              (list_all (λ y. list_any (λ x. meets x ms y) here) there) h)
+              (offset e l.0)
+              (In-map (corner_offset kind (length sizes) (rank_of kind sizes e)) (facet_corners kind (length sizes) g) l.0 l.1)) in
               let k = from_In-map (corner_offset kind (length sizes) (rank_of kind sizes c)) (facet_corners kind (length sizes) f) q.0 q.1 in
               let met : meets (offset c k.0) ms (offset e l.0) ≡ true = subst (λ (x : List ℕ). meets x ms (offset e l.0) ≡ true) k.2 q.2 in
               let same : corner kind sizes c k.0 ≡ p = same_where_meet k.0 l.0 (in_facet kind (length sizes) f k.0 k.1).0 l_in.0 met ∙ sym l.2 in
-              Contains_from (facet_points kind sizes c f) p (subst (λ (x : List ℕ). In x (facet_points kind sizes c f)) same (In-map (corner kind sizes c) (facet_corners kind (length sizes) f) k.0 k.1)),
+              Contains_from (facet_points kind sizes c f) p
+              (subst (λ (x : List ℕ). In x (facet_points kind sizes c f)) same
+              (In-map (corner kind sizes c) (facet_corners kind (length sizes) f) k.0 k.1)),
         )
 
         pub places_same : SamePoints (facet_points kind sizes c f) (facet_points kind sizes e g) → same_places ms here there ≡ true
         places_same same =
-            both (list_all (λ x. list_any (λ y. meets x ms y) there) here) (list_all (λ y. list_any (λ x. meets x ms y) here) there)
+            and_from (list_all (λ x. list_any (λ y. meets x ms y) there) here) (list_all (λ y. list_any (λ x. meets x ms y) here) there)
             (all_from (λ x. list_any (λ y. meets x ms y) there) here (λ x i.
             let k = from_In-map (corner_offset kind (length sizes) (rank_of kind sizes c)) (facet_corners kind (length sizes) f) x i in
-            let has = (same (corner kind sizes c k.0)).0 (Contains_from (facet_points kind sizes c f) (corner kind sizes c k.0) (In-map (corner kind sizes c) (facet_corners kind (length sizes) f) k.0 k.1)) in
-            let l = from_In-map (corner kind sizes e) (facet_corners kind (length sizes) g) (corner kind sizes c k.0) (In_from (facet_points kind sizes e g) (corner kind sizes c k.0) has) in
-            any_from (λ y. meets x ms y) there (offset e l.0) (In-map (corner_offset kind (length sizes) (rank_of kind sizes e)) (facet_corners kind (length sizes) g) l.0 l.1)
-            (subst (λ (z : List ℕ). meets z ms (offset e l.0) ≡ true) (sym k.2) (meet_where_same k.0 l.0 (in_facet kind (length sizes) f k.0 k.1).0 (in_facet kind (length sizes) g l.0 l.1).0 l.2))))
+            let has =
+            (same (corner kind sizes c k.0)).0
+            (Contains_from (facet_points kind sizes c f) (corner kind sizes c k.0)
+            (In-map (corner kind sizes c) (facet_corners kind (length sizes) f) k.0 k.1)) in
+            let l =
+            from_In-map (corner kind sizes e) (facet_corners kind (length sizes) g) (corner kind sizes c k.0)
+            (In_from (facet_points kind sizes e g) (corner kind sizes c k.0) has) in
+            any_from (λ y. meets x ms y) there (offset e l.0)
+            (In-map (corner_offset kind (length sizes) (rank_of kind sizes e)) (facet_corners kind (length sizes) g) l.0 l.1)
+            (subst (λ (z : List ℕ). meets z ms (offset e l.0) ≡ true) (sym k.2)
+            (meet_where_same k.0 l.0 (in_facet kind (length sizes) f k.0 k.1).0 (in_facet kind (length sizes) g l.0 l.1).0 l.2))))
             (all_from (λ y. list_any (λ x. meets x ms y) here) there (λ y i.
             let l = from_In-map (corner_offset kind (length sizes) (rank_of kind sizes e)) (facet_corners kind (length sizes) g) y i in
-            let has = (same (corner kind sizes e l.0)).1 (Contains_from (facet_points kind sizes e g) (corner kind sizes e l.0) (In-map (corner kind sizes e) (facet_corners kind (length sizes) g) l.0 l.1)) in
-            let k = from_In-map (corner kind sizes c) (facet_corners kind (length sizes) f) (corner kind sizes e l.0) (In_from (facet_points kind sizes c f) (corner kind sizes e l.0) has) in
-            any_from (λ x. meets x ms y) here (offset c k.0) (In-map (corner_offset kind (length sizes) (rank_of kind sizes c)) (facet_corners kind (length sizes) f) k.0 k.1)
-            (subst (λ (z : List ℕ). meets (offset c k.0) ms z ≡ true) (sym l.2) (meet_where_same k.0 l.0 (in_facet kind (length sizes) f k.0 k.1).0 (in_facet kind (length sizes) g l.0 l.1).0 (sym k.2)))))
+            let has =
+            (same (corner kind sizes e l.0)).1
+            (Contains_from (facet_points kind sizes e g) (corner kind sizes e l.0)
+            (In-map (corner kind sizes e) (facet_corners kind (length sizes) g) l.0 l.1)) in
+            let k =
+            from_In-map (corner kind sizes c) (facet_corners kind (length sizes) f) (corner kind sizes e l.0)
+            (In_from (facet_points kind sizes c f) (corner kind sizes e l.0) has) in
+            any_from (λ x. meets x ms y) here (offset c k.0)
+            (In-map (corner_offset kind (length sizes) (rank_of kind sizes c)) (facet_corners kind (length sizes) f) k.0 k.1)
+            (subst (λ (z : List ℕ). meets (offset c k.0) ms z ≡ true) (sym l.2)
+            (meet_where_same k.0 l.0 (in_facet kind (length sizes) f k.0 k.1).0 (in_facet kind (length sizes) g l.0 l.1).0 (sym k.2)))))

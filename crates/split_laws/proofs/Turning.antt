@@ -1,17 +1,20 @@
 -- How a turn follows an order of the columns, some of them negated: by a finite test of the order.
-use Rattle.std.proofs.Common.{◌≡◌, ℕ, zero, suc, ◌<◌, Bool, true, false, not, ◌&&◌, List, [], ◌∷◌, length, Option, Some, None, refl, ap, sym, ◌∙◌, subst, arith, ℤ}
-use Rattle.std.specs.Prelude.{map, pos, negsuc, ◌+ℤ◌, ◌*ℤ◌, neg_ℤ, ◌==◌, slice_index, slice_index_or, nat_lt, if◌then◌else◌}
+use Rattle.std.proofs.Common.{◌≡◌, ℕ, ◌<◌, Bool, true, false, not, ◌&&◌, List, [], ◌∷◌, length, Option, Some, None, refl, ap, sym, ◌∙◌}
+use Rattle.std.proofs.Common.{subst, arith, ℤ}
+use Rattle.std.specs.Prelude.{map, pos, ◌+ℤ◌, ◌*ℤ◌, neg_ℤ, ◌==◌, slice_index, slice_index_or, nat_lt, if◌then◌else◌}
 use Rattle.std.specs.List.{list_all}
-use Rattle.std.proofs.Math.IntN.{neg_ℤ-neg_ℤ, *ℤ_comm}
+use Rattle.std.proofs.Math.IntN.{neg_ℤ-neg_ℤ}
 use Rattle.std.proofs.lemmas.Bool.{eqb-true, ltb-true}
 use Rattle.std.proofs.lemmas.List.{length-map}
 use Rattle.std.proofs.lemmas.Int.{ints}
 use Rattle.std.proofs.lemmas.Slice.Eq.{bytes_eq-Decides}
-use Rattle.iso_model.specs.Orders.{orders, is_odd_order, same_list}
+use Rattle.lists.specs.Orders.{orders, is_odd_order, same_list}
 use Rattle.iso_model.specs.Points.{axes}
 use Rattle.iso_model.specs.Turns.{turn, total, signed, product_along}
 use Rattle.split_checks.specs.ColumnTests.{odd_reversals, differs, keeps_parity, keep_first, pull, goes_on, rearranged, turns_well}
-use Rattle.split_laws.proofs.Members.{and_left, and_right, at_numbers}
+use Rattle.lists.proofs.MemberLaws.{at_numbers}
+use Rattle.lists.proofs.Tests.{and_left, and_right}
+use Rattle.polynomials.proofs.IntLaws.{neg-mul, mul-neg}
 
 -- ---- a sum over a list of orders does not depend on their order
 
@@ -25,7 +28,8 @@ module _ (g : List ℕ → ℤ) where
   abbrev sum_over : List (List ℕ) → ℤ
   sum_over xs = total (map g xs)
 
-  pull_case : (x y : List ℕ) (ys zs : List (List ℕ)) → ((ws : List (List ℕ)) → pull x ys ≡ Some ws → sum_over ys ≡ g x +ℤ sum_over ws) → (b : Bool) → (b ≡ true → x ≡ y) → (o : Option (List (List ℕ))) → pull x ys ≡ o →
+  pull_case : (x y : List ℕ) (ys zs : List (List ℕ)) → ((ws : List (List ℕ)) → pull x ys ≡ Some ws → sum_over ys ≡ g x +ℤ sum_over ws) → (b : Bool)
+      → (b ≡ true → x ≡ y) → (o : Option (List (List ℕ))) → pull x ys ≡ o →
       (if b then Some ys else keep_first y o) ≡ Some zs → sum_over (y ∷ ys) ≡ g x +ℤ sum_over zs
   pull_case x y ys zs later true same o is e = rw (same refl, some_is ys zs e) refl
   pull_case x y ys zs later false same None is e = none_is _ zs e
@@ -37,7 +41,8 @@ module _ (g : List ℕ → ℤ) where
   sum-pull x [] zs e = none_is _ zs e
   sum-pull x (y ∷ ys) zs e = pull_case x y ys zs (λ ws h. sum-pull x ys ws h) (same_list x y) (bytes_eq-Decides x y).0 (pull x ys) refl e
 
-  sum-rearranged_case : (x : List ℕ) (xs ys : List (List ℕ)) → ((zs : List (List ℕ)) → rearranged xs zs ≡ true → sum_over xs ≡ sum_over zs) → (o : Option (List (List ℕ))) → pull x ys ≡ o → goes_on (rearranged xs) o ≡ true → g x +ℤ sum_over xs ≡ sum_over ys
+  sum-rearranged_case : (x : List ℕ) (xs ys : List (List ℕ)) → ((zs : List (List ℕ)) → rearranged xs zs ≡ true → sum_over xs ≡ sum_over zs)
+      → (o : Option (List (List ℕ))) → pull x ys ≡ o → goes_on (rearranged xs) o ≡ true → g x +ℤ sum_over xs ≡ sum_over ys
   sum-rearranged_case x xs ys later None is h = absurd (cc)
   sum-rearranged_case x xs ys later (Some zs) is h =
       let a : sum_over ys ≡ g x +ℤ sum_over zs = sum-pull x ys zs is in
@@ -51,22 +56,11 @@ module _ (g : List ℕ → ℤ) where
 
 -- ---- signs
 
-neg_left : (a b : ℤ) → neg_ℤ a *ℤ b ≡ neg_ℤ (a *ℤ b)
-neg_left (pos zero) (pos m) = omega (arith, ints)
-neg_left (pos zero) (negsuc m) = omega (arith, ints)
-neg_left (pos (suc n)) (pos m) = refl
-neg_left (pos (suc n)) (negsuc m) = omega (arith, ints)
-neg_left (negsuc n) (pos m) = omega (arith, ints)
-neg_left (negsuc n) (negsuc m) = omega (arith, ints)
-
-neg_right : (a b : ℤ) → a *ℤ neg_ℤ b ≡ neg_ℤ (a *ℤ b)
-neg_right a b = *ℤ_comm a (neg_ℤ b) ∙ neg_left b a ∙ ap neg_ℤ (*ℤ_comm b a)
-
 -- the sign of a product
 signed_product : (a b : Bool) (x y : ℤ) → signed a x *ℤ signed b y ≡ signed (if a then not b else b) (x *ℤ y)
-signed_product true true x y = neg_left x (neg_ℤ y) ∙ ap neg_ℤ (neg_right x y) ∙ neg_ℤ-neg_ℤ (x *ℤ y)
-signed_product true false x y = neg_left x y
-signed_product false true x y = neg_right x y
+signed_product true true x y = neg-mul x (neg_ℤ y) ∙ ap neg_ℤ (mul-neg x y) ∙ neg_ℤ-neg_ℤ (x *ℤ y)
+signed_product true false x y = neg-mul x y
+signed_product false true x y = mul-neg x y
 signed_product false false x y = refl
 
 signed_twice : (a b : Bool) (x : ℤ) → signed a (signed b x) ≡ signed (differs a b) x
@@ -102,15 +96,18 @@ module _ (d : ℕ) (cols : List ℕ) (revs : List Bool) where
   all_axes (i ∷ order) h (row ∷ rows) e =
       let small : i < d = ltb-true i d (and_left (nat_lt i d) (list_all (λ j. nat_lt j d) order) h) in
       let rest = all_axes order (and_right (nat_lt i d) (list_all (λ j. nat_lt j d) order) h) rows (omega (arith, e)) in
-      ap (λ (x : ℤ). x *ℤ product_along (map turned_row rows) order) (at_numbers (λ j. signed (slice_index_or revs j false) (slice_index_or row (slice_index cols j) (pos 0))) d i (pos 0) small)
+      ap (λ (x : ℤ). x *ℤ product_along (map turned_row rows) order)
+      (at_numbers (λ j. signed (slice_index_or revs j false) (slice_index_or row (slice_index cols j) (pos 0))) d i (pos 0) small)
       ∙ ap (λ (y : ℤ). signed (slice_index_or revs i false) (slice_index_or row (slice_index cols i) (pos 0)) *ℤ y) rest
-      ∙ signed_product (slice_index_or revs i false) (odd_reversals revs order) (slice_index_or row (slice_index cols i) (pos 0)) (product_along rows (map (slice_index cols) order))
+      ∙ signed_product (slice_index_or revs i false) (odd_reversals revs order) (slice_index_or row (slice_index cols i) (pos 0))
+      (product_along rows (map (slice_index cols) order))
 
   module _ (odd : Bool) (rows : List (List ℤ)) (long : length rows ≡ d) where
     abbrev along : List (List ℤ) → List ℕ → ℤ
     along rs o = signed (is_odd_order o) (product_along rs o)
 
-    along_at : (order : List ℕ) → keeps_parity d cols revs odd order ≡ true → along (map turned_row rows) order ≡ signed odd (along rows (map (slice_index cols) order))
+    along_at : (order : List ℕ) → keeps_parity d cols revs odd order ≡ true
+        → along (map turned_row rows) order ≡ signed odd (along rows (map (slice_index cols) order))
     along_at order h =
         let small : Bool = list_all (λ i. nat_lt i d) order in
         let many : Bool = length order == d in
@@ -118,23 +115,30 @@ module _ (d : ℕ) (cols : List ℕ) (revs : List Bool) where
         let two : (small && many) ≡ true = and_left (small && many) even h in
         let as_long : length order ≡ length rows = eqb-true (length order) d (and_right small many two) ∙ sym long in
         let parity : differs (is_odd_order order) (odd_reversals revs order) ≡ differs odd (is_odd_order (map (slice_index cols) order)) =
-        no_difference (differs (is_odd_order order) (odd_reversals revs order)) (differs odd (is_odd_order (map (slice_index cols) order))) (and_right (small && many) even h) in
+        no_difference (differs (is_odd_order order) (odd_reversals revs order)) (differs odd (is_odd_order (map (slice_index cols) order)))
+        (and_right (small && many) even h) in
         ap (signed (is_odd_order order)) (all_axes order (and_left small many two) rows as_long)
         ∙ signed_twice (is_odd_order order) (odd_reversals revs order) (product_along rows (map (slice_index cols) order))
         ∙ ap (λ (b : Bool). signed b (product_along rows (map (slice_index cols) order))) parity
         ∙ sym (signed_twice odd (is_odd_order (map (slice_index cols) order)) (product_along rows (map (slice_index cols) order)))
 
-    sum_turned : (xs : List (List ℕ)) → list_all (keeps_parity d cols revs odd) xs ≡ true → total (map (along (map turned_row rows)) xs) ≡ signed odd (total (map (along rows) (map (map (slice_index cols)) xs)))
+    sum_turned : (xs : List (List ℕ)) → list_all (keeps_parity d cols revs odd) xs ≡ true
+        → total (map (along (map turned_row rows)) xs) ≡ signed odd (total (map (along rows) (map (map (slice_index cols)) xs)))
     sum_turned [] h = signed_zero odd
     sum_turned (x ∷ xs) h =
-        signed_sum odd (along (map turned_row rows) x) (along rows (map (slice_index cols) x)) (total (map (along (map turned_row rows)) xs)) (total (map (along rows) (map (map (slice_index cols)) xs)))
-        (along_at x (and_left (keeps_parity d cols revs odd x) (list_all (keeps_parity d cols revs odd) xs) h)) (sum_turned xs (and_right (keeps_parity d cols revs odd x) (list_all (keeps_parity d cols revs odd) xs) h))
+        signed_sum odd (along (map turned_row rows) x) (along rows (map (slice_index cols) x)) (total (map (along (map turned_row rows)) xs))
+        (total (map (along rows) (map (map (slice_index cols)) xs)))
+        (along_at x (and_left (keeps_parity d cols revs odd x) (list_all (keeps_parity d cols revs odd) xs) h))
+        (sum_turned xs (and_right (keeps_parity d cols revs odd x) (list_all (keeps_parity d cols revs odd) xs) h))
 
     -- the turn is the old one, negated where the order of the columns and the negations are odd together
     pub turn_law : turns_well d cols revs odd ≡ true → turn (map turned_row rows) ≡ signed odd (turn rows)
     unfolding turn
     turn_law h =
         ap (λ (n : ℕ). total (map (along (map turned_row rows)) (orders n))) (length-map rows turned_row ∙ long)
-        ∙ sum_turned (orders d) (and_left (list_all (keeps_parity d cols revs odd) (orders d)) (rearranged (map (map (slice_index cols)) (orders d)) (orders d)) h)
-        ∙ ap (signed odd) (sum-rearranged (along rows) (map (map (slice_index cols)) (orders d)) (orders d) (and_right (list_all (keeps_parity d cols revs odd) (orders d)) (rearranged (map (map (slice_index cols)) (orders d)) (orders d)) h))
+        ∙ sum_turned (orders d)
+        (and_left (list_all (keeps_parity d cols revs odd) (orders d)) (rearranged (map (map (slice_index cols)) (orders d)) (orders d)) h)
+        ∙ ap (signed odd)
+        (sum-rearranged (along rows) (map (map (slice_index cols)) (orders d)) (orders d)
+        (and_right (list_all (keeps_parity d cols revs odd) (orders d)) (rearranged (map (map (slice_index cols)) (orders d)) (orders d)) h))
         ∙ ap (λ (n : ℕ). signed odd (total (map (along rows) (orders n)))) (sym long)

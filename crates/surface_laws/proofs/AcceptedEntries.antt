@@ -6,11 +6,11 @@ use Rattle.iso_model.specs.Seams.{seams}
 use Rattle.iso_model.specs.Values.{Volume, label_of}
 use Rattle.iso_model.specs.Tables.{Table, IsTable, entry_of}
 use Rattle.iso_model.specs.Acceptance.{IsAccepted}
-use Rattle.mesh_laws.proofs.Members.{In_from}
 use Rattle.entry_laws.proofs.LabelLaws.{LabelLaws, label_laws}
 use Rattle.entry_laws.proofs.SeamLaws.{matches_across}
 use Rattle.volume_pieces.proofs.AcrossMatches.{EntriesMatch}
 use Rattle.volume_pieces.proofs.Labels.{label_few}
+use Rattle.lists.proofs.MemberLaws.{In_from_place}
 
 -- a table is accepted, and of the kind and dimension of the volume
 pub record Serves (v : Volume) (t : Table) : Type 0 where
@@ -22,7 +22,7 @@ pub record Serves (v : Volume) (t : Table) : Type 0 where
 -- the entries of a table match across seams
 own_match : (t : Table) → IsTable t → IsAccepted t → EntriesMatch t.kind t.dimension t
 own_match t table accepted s here there m face has less_here less_there meet ascends all =
-    matches_across t s here there m face table accepted (In_from (seams t.kind t.dimension) s has.0 has.1 has.2) less_here less_there meet ascends all
+    matches_across t s here there m face table accepted (In_from_place (seams t.kind t.dimension) s has.0 has.1 has.2) less_here less_there meet ascends all
 
 module _ (v : Volume) (t : Table) (serves : Serves v t) where
   -- what holds of the table's kind and dimension holds of those of the volume

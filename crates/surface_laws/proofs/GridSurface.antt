@@ -26,7 +26,8 @@ pub record SuitsGrid (kind : Kind) (g : Grid) (t : Table) : Type 0 where
   pub of_dimension : t.dimension ≡ length g.sizes
 
 -- a table that equals an accepted one, and sizes of as many axes that equal those of the grid
-pub suits_grid : (kind : Kind) (d : ℕ) (sizes : List ℕ) (g : Grid) (t given : Table) → IsRegularGrid g → IsTable given → IsAccepted given → given.kind ≡ kind → given.dimension ≡ d → given ≡ t →
+pub suits_grid : (kind : Kind) (d : ℕ) (sizes : List ℕ) (g : Grid) (t given : Table) → IsRegularGrid g → IsTable given → IsAccepted given
+    → given.kind ≡ kind → given.dimension ≡ d → given ≡ t →
     length sizes ≡ d → sizes ≡ g.sizes → SuitsGrid kind g t
 suits_grid kind d sizes g t given regular table accepted of_kind of_dimension same long same_sizes =
     subst (SuitsGrid kind g) same (record {
@@ -70,4 +71,5 @@ module _ (kind : Kind) (g : Grid) (t : Table) (iso : ℤ) (suits : SuitsGrid kin
   -- in three dimensions the triangles at each vertex are linked by one walk, which closes exactly off the outer boundary
   pub linked_by_walks : length g.sizes ≡ 3 → IsLinkedByWalks (volume kind g iso None) (placed_mesh (volume kind g iso None) t).simplices
   linked_by_walks three =
-      arcs_are_walks whole regular t (placed_mesh whole t).simplices regular.fits three (KeepsAll-no_blank kind g iso) placed (linked whole t regular serves three)
+      arcs_are_walks whole regular t (placed_mesh whole t).simplices regular.fits three (KeepsAll-no_blank kind g iso) placed
+      (linked whole t regular serves three)

@@ -4,11 +4,9 @@ use Rattle.iso_model.specs.Cells.{edge_count}
 use Rattle.iso_model.specs.Values.{Volume, IsRegularVolume, label_of}
 use Rattle.iso_model.specs.Bipolar.{is_bipolar_in}
 use Rattle.iso_model.specs.Tables.{Table}
-use Rattle.mesh_laws.proofs.Members.{In}
-use Rattle.mesh_laws.proofs.FaceSigns.{Each-In, Each-from_In}
 use Rattle.glue_laws.proofs.Pieces.{IsTuple, Laws}
 use Rattle.volume_pieces.proofs.PiecesOf.{pieces_of}
-use Rattle.volume_pieces.proofs.Labels.{label_bit, label_few, bipolar_local}
+use Rattle.volume_pieces.proofs.Labels.{label_few, bipolar_local}
 use Rattle.volume_pieces.proofs.Edges.{cells_distinct, bipolar_is, is_bipolar_from, place_edge, back}
 use Rattle.volume_pieces.proofs.Seams.{LabelsTellSigns}
 use Rattle.volume_pieces.proofs.AcrossStands.{leads_back}
@@ -16,6 +14,9 @@ use Rattle.volume_pieces.proofs.AcrossSeams.{PlacesLeadBack, seam_keeps, seam_or
 use Rattle.volume_pieces.proofs.AcrossShares.{PlacesHaveEdges, shared_edges}
 use Rattle.volume_pieces.proofs.AcrossMatches.{LabelsAreBelow, matches}
 use Rattle.surface_laws.proofs.AcceptedEntries.{Serves, cell_laws, entries_match}
+use Rattle.lists.specs.Members.{In}
+use Rattle.lists.proofs.MemberLaws.{Each-In, Each-from_In}
+use Rattle.iso_model.proofs.SignLaws.{label_bit}
 
 -- labels tell the signs of corners
 pub label_signs : (v : Volume) → LabelsTellSigns v
@@ -42,7 +43,9 @@ module _ (v : Volume) (t : Table) (regular : IsRegularVolume v) (serves : Serves
         distinct = sound.distinct;
         long = sound.long;
         bipolar = Each-from_In (λ e. (pieces_of v t).is_bipolar c e ≡ true) w (λ e j.
-            let at = Each-In (λ x. (x < edge_count v.kind (length v.sizes)) × (is_bipolar_in v.kind (length v.sizes) (label_of v c) x ≡ true)) w sound.edges e j in
+            let at =
+            Each-In (λ x. (x < edge_count v.kind (length v.sizes)) × (is_bipolar_in v.kind (length v.sizes) (label_of v c) x ≡ true)) w
+            sound.edges e j in
             is_bipolar_from v regular t c e at.0 (sym (bipolar_local v regular c e at.0) ∙ at.1));
       }
 

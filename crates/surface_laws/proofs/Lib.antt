@@ -1,7 +1,7 @@
 pub mod AcceptedEntries
 pub mod LawfulPieces
 pub mod Surface
-pub mod FanPieces
+pub mod PathPieces
 pub mod LinkedArcs
 pub mod Linked
 pub mod Isosurface
@@ -11,3 +11,10 @@ pub mod OuterEdges
 pub mod OneArc
 pub mod LinkedByWalks
 pub mod GridSurface
+pub mod RingWalks
+pub mod SameEdges
+pub mod KeptRings
+pub mod ExchangedTurns
+pub mod SideRows
+pub mod TowardsPositive
+pub mod Sided

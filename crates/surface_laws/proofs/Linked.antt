@@ -1,5 +1,5 @@
 -- The triangles of the placed mesh of an accepted table in a regular volume of three dimensions are linked.
-use Rattle.std.proofs.Common.{◌≡◌, ℕ, zero, suc, ◌<◌, List, [], ◌∷◌, length, refl, sym, subst, arith, inl, inr}
+use Rattle.std.proofs.Common.{◌≡◌, ℕ, ◌<◌, List, [], ◌∷◌, length, sym, subst, arith}
 use Rattle.std.specs.Prelude.{All, slice_index_or}
 use Rattle.iso_model.specs.Neighbours.{HasEdge}
 use Rattle.iso_model.specs.Boundary.{LieInFreeFacet}
@@ -10,12 +10,9 @@ use Rattle.iso_model.specs.Surface.{IsCellAt}
 use Rattle.iso_model.specs.Links.{IsCycle, IsPath, IsLinked, StandsOnArc}
 use Rattle.iso_model.specs.Tables.{Table}
 use Rattle.iso_model.specs.Placed.{placed_mesh}
-use Rattle.mesh_laws.proofs.Members.{In, Contains_from, from_In-flat_map}
-use Rattle.mesh_laws.proofs.FaceSigns.{Each}
-use Rattle.split_laws.proofs.Members as Split
 use Rattle.glue_laws.proofs.Pieces.{Has, Laws, piece, placed_simplices}
 use Rattle.volume_pieces.proofs.PiecesOf.{pieces_of}
-use Rattle.ring_laws.proofs.KeptRings.{ring_laws}
+use Rattle.surface_laws.proofs.KeptRings.{ring_laws}
 use Rattle.link_laws.proofs.Readings.{from_turned}
 use Rattle.link_laws.proofs.Links.{AreLinked, one_leaves}
 use Rattle.link_laws.proofs.Arcs.{LinkLaws, OnArc, at, are_linked}
@@ -26,15 +23,11 @@ use Rattle.link_laws.proofs.TrianglesOnce.{of_spoke}
 use Rattle.link_laws.proofs.TrianglesLinked.{IsSpokePath, SaysOfTriangles, cycle_of_triangles, path_of_triangles, path_on_arc}
 use Rattle.surface_laws.proofs.AcceptedEntries.{Serves}
 use Rattle.surface_laws.proofs.LawfulPieces.{laws_of}
-use Rattle.surface_laws.proofs.FanPieces.{link_laws}
+use Rattle.surface_laws.proofs.PathPieces.{link_laws}
 use Rattle.surface_laws.proofs.LinkedArcs.{kept_cell, from_cell_at, free_facet, from_free_facet, to_one_arc, from_one_arc}
 use Rattle.surface_laws.proofs.Surface.{same_mesh, to_edges, from_edges}
-
--- what stands at a place of a list is a member of it
-In_place : (ws : List (List ℕ)) (i : ℕ) → i < length ws → In (slice_index_or ws i []) ws
-In_place [] i h = absurd (omega (arith, h))
-In_place (w ∷ ws) zero h = inl refl
-In_place (w ∷ ws) (suc i) h = inr (In_place ws i (omega (arith, h)))
+use Rattle.lists.specs.Members.{In, Each}
+use Rattle.lists.proofs.MemberLaws.{Contains_from, from_In-flat_map, In_place, In_from}
 
 -- a list with a member is not empty
 some_there : (xs : List ℕ) (x : ℕ) → In x xs → 0 < length xs
@@ -90,9 +83,10 @@ module _ (v : Volume) (t : Table) (regular : IsRegularVolume v) (serves : Serves
           let r = home_in (pieces_of v t) laws links k j.0 w p q j.1 j.2 (from_turned k p q w reads.1) in
           let h = r.0 in
           let d = stands.1.0 in
-          let i = Split.In_from (cells v) d stands.1.1.0 in
+          let i = In_from (cells v) d stands.1.1.0 in
           let a = at (pieces_of v t) h.cell h.tuple in
-          let edges : All (λ x. HasEdge v.kind v.sizes d (bipolar_edge v x)) a = subst (λ (u : List ℕ). All (λ x. HasEdge v.kind v.sizes d (bipolar_edge v x)) u) (sym r.2) stands.1.1.1 in
+          let edges : All (λ x. HasEdge v.kind v.sizes d (bipolar_edge v x)) a =
+          subst (λ (u : List ℕ). All (λ x. HasEdge v.kind v.sizes d (bipolar_edge v x)) u) (sym r.2) stands.1.1.1 in
           let all = from_edges v t regular serves d h.cell a i h.is_cell (all_at (pieces_of v t) laws links k p h) edges in
           (h, subst (OnArc (pieces_of v t) k c) (only_cell (pieces_of v t) laws links k p h d i all) (from_one_arc v t regular k hk stands.1.2))
 
@@ -101,10 +95,16 @@ module _ (v : Volume) (t : Table) (regular : IsRegularVolume v) (serves : Serves
       to_triangle n p q reads on =
           let w = slice_index_or simplices n [] in
           let h = on.0 in
-          let same = one_leaves k simplices follow (at (pieces_of v t) h.cell h.tuple) w p h.to q (in_all (pieces_of v t) laws links k p h) (In_place simplices n reads.0) h.reads (from_turned k p q w reads.1) in
+          let same =
+          one_leaves k simplices follow (at (pieces_of v t) h.cell h.tuple) w p h.to q (in_all (pieces_of v t) laws links k p h)
+          (In_place simplices n reads.0) h.reads (from_turned k p q w reads.1) in
           let all = subst (Each (Has (pieces_of v t) h.cell)) same (all_at (pieces_of v t) laws links k p h) in (
             Contains_from (triangles_at simplices k) n (triangles_have simplices k n p q reads),
-            (h.cell, (Contains_from (cells v) h.cell h.is_cell, to_edges v t regular serves h.cell w h.is_cell all), to_one_arc v t regular k hk on.1 is_cell has),
+            (
+              h.cell,
+              (Contains_from (cells v) h.cell h.is_cell, to_edges v t regular serves h.cell w h.is_cell all),
+              to_one_arc v t regular k hk on.1 is_cell has,
+            ),
           )
 
       says : SaysOfTriangles (placed_simplices (pieces_of v t)) k (SpokeOn c) (StandsOnArc v (placed_simplices (pieces_of v t)) k c)

@@ -1,4 +1,5 @@
--- Where each cell is kept, edges of one cell lie in a free facet exactly where their ends lie on the outer boundary; so it is with the faces of placed simplices.
+-- Where each cell is kept, edges of one cell lie in a free facet exactly where their ends lie on the outer boundary; so it is with the faces of
+-- placed simplices.
 use Rattle.std.proofs.Common.{◌≡◌, ℕ, zero, suc, ◌+◌, ◌-◌, ◌*◌, ◌<◌, List, [], ◌∷◌, length, refl, ap, sym, ◌∙◌, subst, arith, inl, inr}
 use Rattle.std.specs.Prelude.{◌⊎◌, ◌/◌, All, Contains, slice_index}
 use Rattle.std.proofs.lemmas.Nat.{div-mul-add, mod-mul-add, mul-add-lt}
@@ -10,11 +11,8 @@ use Rattle.iso_model.specs.Neighbours.{facet_points, HasEdge, LiesIn, OnOuterBou
 use Rattle.iso_model.specs.Values.{Volume, IsRegularVolume}
 use Rattle.iso_model.specs.Boundary.{LieInFreeFacet, KeepsAll, BoundaryIsOuter}
 use Rattle.iso_model.specs.Surface.{FacesAreOuter}
-use Rattle.iso_model.proofs.Deciding.{All-from_each, each-from_All}
 use Rattle.iso_model.proofs.FaceLaws.{cells_below, faces_are_outer}
-use Rattle.cell_lattice.specs.Dimensions.{IsDimension}
-use Rattle.mesh_laws.proofs.Members.{In, In-map, from_In-map, In-flat_map, from_In-flat_map}
-use Rattle.split_laws.proofs.Members.{In_from, Contains_from}
+use Rattle.iso_model.specs.Dimensions.{IsDimension}
 use Rattle.split_laws.proofs.Coordinates.{cube_below, cube_in}
 use Rattle.split_laws.proofs.Offsets.{OffsetsFit}
 use Rattle.split_laws.proofs.Placement.{below, coordinate_of, small_offset}
@@ -23,6 +21,9 @@ use Rattle.split_laws.proofs.Sharing.{ends_of_edge}
 use Rattle.volume_pieces.proofs.AcrossStands.{volume_dimension}
 use Rattle.surface_laws.proofs.SideFacets.{CoversSide, low_side, high_side}
 use Rattle.surface_laws.proofs.OuterFacets.{all_cells, outer_is_free, free_is_outer_one}
+use Rattle.lists.specs.Members.{In}
+use Rattle.lists.proofs.Contained.{All-from_each, each-from_All}
+use Rattle.lists.proofs.MemberLaws.{In_from, Contains_from, In-map, from_In-map, In-flat_map, from_In-flat_map}
 
 -- the ends of an edge
 abbrev both_ends : Edge → List (List ℕ)
@@ -53,7 +54,8 @@ module _ (v : Volume) (regular : IsRegularVolume v) where
     is_cell : cell < cell_count v.kind v.sizes
     is_facet : f < facet_count v.kind (length v.sizes)
     lies : (p : List ℕ) → Contains (facet_points v.kind v.sizes cell f) p → slice_index p i ≡ value
-    has : (k : ℕ) → k < corner_count v.kind (length v.sizes) → slice_index (corner v.kind v.sizes c k) i ≡ value → Contains (facet_points v.kind v.sizes cell f) (corner v.kind v.sizes c k)
+    has : (k : ℕ) → k < corner_count v.kind (length v.sizes) → slice_index (corner v.kind v.sizes c k) i ≡ value
+        → Contains (facet_points v.kind v.sizes cell f) (corner v.kind v.sizes c k)
 
   -- the cell of a rank in the cube of a cell
   module _ (c r : ℕ) (hc : c < cell_count v.kind v.sizes) (hr : r < cells_per_cube v.kind (length v.sizes)) where
@@ -71,15 +73,18 @@ module _ (v : Volume) (regular : IsRegularVolume v) where
         subst (λ (n : ℕ). beside < n) (mul_comm per (cube_count v.sizes)) (mul-add-lt (c / per) per r (cube_count v.sizes) (cube_in v.kind v.sizes c hc) hr)
 
     -- a corner of it with the same offset is the same point
-    corner_beside : (k l : ℕ) → corner_offset v.kind (length v.sizes) (rank_of v.kind v.sizes c) k ≡ corner_offset v.kind (length v.sizes) r l → corner v.kind v.sizes c k ≡ corner v.kind v.sizes beside l
+    corner_beside : (k l : ℕ) → corner_offset v.kind (length v.sizes) (rank_of v.kind v.sizes c) k ≡ corner_offset v.kind (length v.sizes) r l
+        → corner v.kind v.sizes c k ≡ corner v.kind v.sizes beside l
     corner_beside k l same =
-        ap (λ (o : List ℕ). stand (cube_of v.kind v.sizes c) o) same ∙ ap (λ (x : List ℕ). stand x (corner_offset v.kind (length v.sizes) r l)) (sym beside_cube)
+        ap (λ (o : List ℕ). stand (cube_of v.kind v.sizes c) o) same
+        ∙ ap (λ (x : List ℕ). stand x (corner_offset v.kind (length v.sizes) r l)) (sym beside_cube)
         ∙ ap (λ (q : ℕ). stand (cube_of v.kind v.sizes beside) (corner_offset v.kind (length v.sizes) q l)) (sym beside_rank)
       where
         stand : List ℕ → List ℕ → List ℕ
         stand x o = point (length v.sizes) (λ i. 2 * slice_index x i + slice_index o i)
 
-  module _ (c i x value : ℕ) (hc : c < cell_count v.kind v.sizes) (hi : i < length v.sizes) (at : 2 * slice_index (cube_of v.kind v.sizes c) i + x ≡ value) where
+  module _ (c i x value : ℕ) (hc : c < cell_count v.kind v.sizes) (hi : i < length v.sizes)
+      (at : 2 * slice_index (cube_of v.kind v.sizes c) i + x ≡ value) where
     side_of : (next : ℕ) × (f : ℕ) × CoversSide v.kind (length v.sizes) (rank_of v.kind v.sizes c) i x next f → HasSide c i value
     side_of s =
         let r : ℕ = s.0 in
@@ -93,16 +98,24 @@ module _ (v : Volume) (regular : IsRegularVolume v) where
           is_facet = side.is_facet;
           lies = λ p has.
               let k = from_In-map (corner v.kind v.sizes e) (facet_corners v.kind (length v.sizes) f) p (In_from (facet_points v.kind v.sizes e f) p has) in
-              let offset : slice_index (corner_offset v.kind (length v.sizes) r k.0) i ≡ x = side.lies (corner_offset v.kind (length v.sizes) r k.0) (In-map (corner_offset v.kind (length v.sizes) r) (facet_corners v.kind (length v.sizes) f) k.0 k.1) in
-              let cube : slice_index (cube_of v.kind v.sizes e) i ≡ slice_index (cube_of v.kind v.sizes c) i = ap (λ (y : List ℕ). slice_index y i) (beside_cube c r hc side.is_rank) in
-              let rank : slice_index (corner_offset v.kind (length v.sizes) (rank_of v.kind v.sizes e) k.0) i ≡ slice_index (corner_offset v.kind (length v.sizes) r k.0) i =
+              let offset : slice_index (corner_offset v.kind (length v.sizes) r k.0) i ≡ x =
+              side.lies (corner_offset v.kind (length v.sizes) r k.0)
+              (In-map (corner_offset v.kind (length v.sizes) r) (facet_corners v.kind (length v.sizes) f) k.0 k.1) in
+              let cube : slice_index (cube_of v.kind v.sizes e) i ≡ slice_index (cube_of v.kind v.sizes c) i =
+              ap (λ (y : List ℕ). slice_index y i) (beside_cube c r hc side.is_rank) in
+              let rank : slice_index (corner_offset v.kind (length v.sizes) (rank_of v.kind v.sizes e) k.0) i
+              ≡ slice_index (corner_offset v.kind (length v.sizes) r k.0) i =
               ap (λ (q : ℕ). slice_index (corner_offset v.kind (length v.sizes) q k.0) i) (beside_rank c r hc side.is_rank) in
               ap (λ (q : List ℕ). slice_index q i) k.2 ∙ omega (arith, coordinate_of v.kind v.sizes fit e k.0 i hi, cube, rank, offset, at);
           has = λ k hk on.
-              let offset : slice_index (corner_offset v.kind (length v.sizes) (rank_of v.kind v.sizes c) k) i ≡ x = omega (arith, coordinate_of v.kind v.sizes fit c k i hi, on, at) in
-              let l = from_In-map (corner_offset v.kind (length v.sizes) r) (facet_corners v.kind (length v.sizes) f) (corner_offset v.kind (length v.sizes) (rank_of v.kind v.sizes c) k) (side.has k hk offset) in
+              let offset : slice_index (corner_offset v.kind (length v.sizes) (rank_of v.kind v.sizes c) k) i ≡ x =
+              omega (arith, coordinate_of v.kind v.sizes fit c k i hi, on, at) in
+              let l =
+              from_In-map (corner_offset v.kind (length v.sizes) r) (facet_corners v.kind (length v.sizes) f)
+              (corner_offset v.kind (length v.sizes) (rank_of v.kind v.sizes c) k) (side.has k hk offset) in
               Contains_from (facet_points v.kind v.sizes e f) (corner v.kind v.sizes c k)
-              (subst (λ (p : List ℕ). In p (facet_points v.kind v.sizes e f)) (sym (corner_beside c r hc side.is_rank k l.0 l.2)) (In-map (corner v.kind v.sizes e) (facet_corners v.kind (length v.sizes) f) l.0 l.1));
+              (subst (λ (p : List ℕ). In p (facet_points v.kind v.sizes e f)) (sym (corner_beside c r hc side.is_rank k l.0 l.2))
+              (In-map (corner v.kind v.sizes e) (facet_corners v.kind (length v.sizes) f) l.0 l.1));
         }
 
   hr : (c : ℕ) → rank_of v.kind v.sizes c < cells_per_cube v.kind (length v.sizes)
@@ -112,13 +125,16 @@ module _ (v : Volume) (regular : IsRegularVolume v) where
   low_has : (c i : ℕ) → c < cell_count v.kind v.sizes → i < length v.sizes → slice_index (cube_of v.kind v.sizes c) i ≡ 0 → HasSide c i 0
   low_has c i hc hi at = side_of c i 0 0 hc hi (omega (arith, at)) (low_side v.kind (length v.sizes) is regular.fits (rank_of v.kind v.sizes c) i (hr c) hi)
 
-  low_from : (c i k : ℕ) → c < cell_count v.kind v.sizes → i < length v.sizes → k < corner_count v.kind (length v.sizes) → slice_index (corner v.kind v.sizes c k) i ≡ 0 → HasSide c i 0
+  low_from : (c i k : ℕ) → c < cell_count v.kind v.sizes → i < length v.sizes → k < corner_count v.kind (length v.sizes)
+      → slice_index (corner v.kind v.sizes c k) i ≡ 0 → HasSide c i 0
   low_from c i k hc hi hk on = low_has c i hc hi (omega (arith, coordinate_of v.kind v.sizes fit c k i hi, on))
 
-  high_from : (c i k : ℕ) → c < cell_count v.kind v.sizes → i < length v.sizes → k < corner_count v.kind (length v.sizes) → slice_index (corner v.kind v.sizes c k) i ≡ 2 * (slice_index v.sizes i - 1) → HasSide c i (2 * (slice_index v.sizes i - 1))
+  high_from : (c i k : ℕ) → c < cell_count v.kind v.sizes → i < length v.sizes → k < corner_count v.kind (length v.sizes)
+      → slice_index (corner v.kind v.sizes c k) i ≡ 2 * (slice_index v.sizes i - 1) → HasSide c i (2 * (slice_index v.sizes i - 1))
   high_from c i k hc hi hk on =
       let inside = cube_below v.sizes (c / per) (cube_in v.kind v.sizes c hc) i hi in
-      side_of c i 2 (2 * (slice_index v.sizes i - 1)) hc hi (omega (arith, coordinate_of v.kind v.sizes fit c k i hi, on, inside, small_offset v.kind v.sizes fit c k i hk))
+      side_of c i 2 (2 * (slice_index v.sizes i - 1)) hc hi
+      (omega (arith, coordinate_of v.kind v.sizes fit c k i hi, on, inside, small_offset v.kind v.sizes fit c k i hk))
       (high_side v.kind (length v.sizes) is regular.fits (rank_of v.kind v.sizes c) i (hr c) hi)
 
   -- ---- edges of a cell
@@ -138,15 +154,23 @@ module _ (v : Volume) (regular : IsRegularVolume v) where
 
   module _ (c : ℕ) (hc : c < cell_count v.kind v.sizes) where
     -- edges of the cell at the value lie in the facet on this side
-    edge_lies : (i value : ℕ) (s : HasSide c i value) (e : Edge) → HasEdge v.kind v.sizes c e → slice_index e.low i ≡ value → slice_index e.high i ≡ value → LiesIn e (facet_points v.kind v.sizes s.cell s.f)
+    edge_lies : (i value : ℕ) (s : HasSide c i value) (e : Edge) → HasEdge v.kind v.sizes c e → slice_index e.low i ≡ value
+        → slice_index e.high i ≡ value → LiesIn e (facet_points v.kind v.sizes s.cell s.f)
     edge_lies i value s e has low high =
         let ends = ends_are_corners v.kind (length v.sizes) is regular.fits has.0 has.1 in
         elim (ends_of_edge v.kind v.sizes (ends_are_corners v.kind (length v.sizes) is regular.fits) c has.0 e has.2) [
-          | inl o ↦ (at_corner (edge_ends v.kind (length v.sizes) has.0).0 ends.0 e.low o.0 low, at_corner (edge_ends v.kind (length v.sizes) has.0).1 ends.1 e.high o.1 high)
-          | inr o ↦ (at_corner (edge_ends v.kind (length v.sizes) has.0).1 ends.1 e.low o.0 low, at_corner (edge_ends v.kind (length v.sizes) has.0).0 ends.0 e.high o.1 high)
+          | inl o ↦ (
+            at_corner (edge_ends v.kind (length v.sizes) has.0).0 ends.0 e.low o.0 low,
+            at_corner (edge_ends v.kind (length v.sizes) has.0).1 ends.1 e.high o.1 high,
+          )
+          | inr o ↦ (
+            at_corner (edge_ends v.kind (length v.sizes) has.0).1 ends.1 e.low o.0 low,
+            at_corner (edge_ends v.kind (length v.sizes) has.0).0 ends.0 e.high o.1 high,
+          )
         ]
       where
-        at_corner : (k : ℕ) → k < corner_count v.kind (length v.sizes) → (p : List ℕ) → corner v.kind v.sizes c k ≡ p → slice_index p i ≡ value → Contains (facet_points v.kind v.sizes s.cell s.f) p
+        at_corner : (k : ℕ) → k < corner_count v.kind (length v.sizes) → (p : List ℕ) → corner v.kind v.sizes c k ≡ p → slice_index p i ≡ value
+            → Contains (facet_points v.kind v.sizes s.cell s.f) p
         at_corner k hk p same at = subst (Contains (facet_points v.kind v.sizes s.cell s.f)) same (s.has k hk (ap (λ (q : List ℕ). slice_index q i) same ∙ at))
 
     -- an edge of the cell has a corner at its low end
@@ -159,7 +183,8 @@ module _ (v : Volume) (regular : IsRegularVolume v) where
         ]
 
     -- in the facet on a side, which is free
-    in_side : KeepsAll v → (i value : ℕ) → i < length v.sizes → (value ≡ 0) ⊎ (value ≡ 2 * (slice_index v.sizes i - 1)) → (es : List Edge) → All (HasEdge v.kind v.sizes c) es → EndsAt i value es → HasSide c i value → LieInFreeFacet v es
+    in_side : KeepsAll v → (i value : ℕ) → i < length v.sizes → (value ≡ 0) ⊎ (value ≡ 2 * (slice_index v.sizes i - 1)) → (es : List Edge)
+        → All (HasEdge v.kind v.sizes c) es → EndsAt i value es → HasSide c i value → LieInFreeFacet v es
     in_side all i value hi which es edges ends s = (
       s.cell,
       s.f,
@@ -175,12 +200,14 @@ module _ (v : Volume) (regular : IsRegularVolume v) where
         points y same = All-from_each (λ p. slice_index p i ≡ y) (facet_points v.kind v.sizes s.cell s.f) (λ p has. s.lies p has ∙ same)
 
         outer : (value ≡ 0) ⊎ (value ≡ 2 * (slice_index v.sizes i - 1)) →
-            All (λ p. slice_index p i ≡ 0) (facet_points v.kind v.sizes s.cell s.f) ⊎ All (λ p. slice_index p i ≡ 2 * (slice_index v.sizes i - 1)) (facet_points v.kind v.sizes s.cell s.f)
+            All (λ p. slice_index p i ≡ 0) (facet_points v.kind v.sizes s.cell s.f)
+            ⊎ All (λ p. slice_index p i ≡ 2 * (slice_index v.sizes i - 1)) (facet_points v.kind v.sizes s.cell s.f)
         outer (inl low) = inl (points 0 low)
         outer (inr high) = inr (points (2 * (slice_index v.sizes i - 1)) high)
 
   -- some edges at the first or the last samples of an axis
-  some_in_side : KeepsAll v → (c : ℕ) → c < cell_count v.kind v.sizes → (e : Edge) (es : List Edge) → All (HasEdge v.kind v.sizes c) (e ∷ es) → OnOuterBoundary v.sizes (ends_of (e ∷ es)) → LieInFreeFacet v (e ∷ es)
+  some_in_side : KeepsAll v → (c : ℕ) → c < cell_count v.kind v.sizes → (e : Edge) (es : List Edge) → All (HasEdge v.kind v.sizes c) (e ∷ es)
+      → OnOuterBoundary v.sizes (ends_of (e ∷ es)) → LieInFreeFacet v (e ∷ es)
   some_in_side all c hc e es edges (i, hi, inl low) =
       let k = low_corner c hc e (each-from_All (HasEdge v.kind v.sizes c) (e ∷ es) edges e (0, omega arith, refl)) in
       let at = (ends_at i 0 (e ∷ es) e low (0, omega arith, refl)).0 in
@@ -188,7 +215,8 @@ module _ (v : Volume) (regular : IsRegularVolume v) where
   some_in_side all c hc e es edges (i, hi, inr high) =
       let k = low_corner c hc e (each-from_All (HasEdge v.kind v.sizes c) (e ∷ es) edges e (0, omega arith, refl)) in
       let at = (ends_at i (2 * (slice_index v.sizes i - 1)) (e ∷ es) e high (0, omega arith, refl)).0 in
-      in_side c hc all i (2 * (slice_index v.sizes i - 1)) hi (inr refl) (e ∷ es) edges high (high_from c i k.0 hc hi k.1 (ap (λ (q : List ℕ). slice_index q i) k.2 ∙ at))
+      in_side c hc all i (2 * (slice_index v.sizes i - 1)) hi (inr refl) (e ∷ es) edges high
+      (high_from c i k.0 hc hi k.1 (ap (λ (q : List ℕ). slice_index q i) k.2 ∙ at))
 
   -- a grid with a cell has a free facet
   some_free : KeepsAll v → (c i : ℕ) → c < cell_count v.kind v.sizes → i < length v.sizes → LieInFreeFacet v []
@@ -196,10 +224,12 @@ module _ (v : Volume) (regular : IsRegularVolume v) where
       let first : 0 < cell_count v.kind v.sizes = omega (arith, hc) in
       let none : 0 / per ≡ 0 = omega arith in
       let stands : slice_index (cube_of v.kind v.sizes 0) i ≡ 0 = ap (λ (n : ℕ). slice_index (cube_at v.sizes n) i) none ∙ first_cube v.sizes i hi in
-      in_side 0 first all i 0 hi (inl refl) [] (All-from_each (HasEdge v.kind v.sizes 0) [] (λ e has. absurd (omega (arith, has.1)))) (All-from_each (λ p. slice_index p i ≡ 0) [] (λ p has. absurd (omega (arith, has.1)))) (low_has 0 i first hi stands)
+      in_side 0 first all i 0 hi (inl refl) [] (All-from_each (HasEdge v.kind v.sizes 0) [] (λ e has. absurd (omega (arith, has.1))))
+      (All-from_each (λ p. slice_index p i ≡ 0) [] (λ p has. absurd (omega (arith, has.1)))) (low_has 0 i first hi stands)
 
   -- from the outer boundary
-  from_outer : KeepsAll v → (c : ℕ) (es : List Edge) → c < cell_count v.kind v.sizes → All (HasEdge v.kind v.sizes c) es → OnOuterBoundary v.sizes (ends_of es) → LieInFreeFacet v es
+  from_outer : KeepsAll v → (c : ℕ) (es : List Edge) → c < cell_count v.kind v.sizes → All (HasEdge v.kind v.sizes c) es
+      → OnOuterBoundary v.sizes (ends_of es) → LieInFreeFacet v es
   from_outer all c [] hc edges on = some_free all c on.0 hc on.1
   from_outer all c (e ∷ es) hc edges on = some_in_side all c hc e es edges on
 
@@ -219,7 +249,9 @@ module _ (v : Volume) (regular : IsRegularVolume v) where
           one_of e (inr (inr past)) there = absurd past
 
       ends : (i value : ℕ) → All (λ p. slice_index p i ≡ value) (facet_points v.kind v.sizes cell f) → EndsAt i value es
-      ends i value points = All-from_each (λ p. slice_index p i ≡ value) (ends_of es) (λ p has. each-from_All (λ q. slice_index q i ≡ value) (facet_points v.kind v.sizes cell f) points p (inside p has))
+      ends i value points =
+          All-from_each (λ p. slice_index p i ≡ value) (ends_of es)
+          (λ p has. each-from_All (λ q. slice_index q i ≡ value) (facet_points v.kind v.sizes cell f) points p (inside p has))
 
       go : OnOuterBoundary v.sizes (facet_points v.kind v.sizes cell f) → OnOuterBoundary v.sizes (ends_of es)
       go (i, hi, inl low) = (i, hi, inl (ends i 0 low))

@@ -3,16 +3,15 @@ use Rattle.std.proofs.Common.{◌≡◌, ℕ, zero, suc, ◌+◌, ◌*◌, ◌<�
 use Rattle.std.specs.Prelude.{◌⊎◌, ◌/◌, Contains, pos, negsuc, ◌+ℤ◌, slice_index}
 use Rattle.std.proofs.lemmas.Bool.{cases_eq}
 use Rattle.std.proofs.lemmas.Int.{ints}
-use Rattle.iso_model.specs.Orders.{numbers}
+use Rattle.lists.specs.Orders.{numbers}
 use Rattle.iso_model.specs.Cells.{facet_count}
 use Rattle.iso_model.specs.Splits.{cells_per_cube, cell_count, cube_of, rank_of}
 use Rattle.iso_model.specs.Neighbours.{facet_points, IsNeighbour, OnOuterBoundary, shift_across}
 use Rattle.iso_model.specs.Values.{Volume, IsRegularVolume, cells, is_kept}
 use Rattle.iso_model.specs.Boundary.{IsFree, KeepsAll, FreeIsOuter}
 use Rattle.iso_model.proofs.FaceLaws.{cells_below}
-use Rattle.cell_lattice.specs.Dimensions.{IsDimension}
+use Rattle.iso_model.specs.Dimensions.{IsDimension}
 use Rattle.split_laws.specs.Standing.{shift_at, StandsAcross, LeavesGrid}
-use Rattle.split_laws.proofs.Members.{Contains_from, In-filter, In-numbers}
 use Rattle.split_laws.proofs.Coordinates.{cube_below, cube_in}
 use Rattle.split_laws.proofs.Across.{next_of}
 use Rattle.split_laws.proofs.Passed.{fits}
@@ -22,6 +21,7 @@ use Rattle.grid_split.specs.Steps.{IsStep, stepped, IsShiftedCube}
 use Rattle.grid_split.proofs.PlaceSums.{number_before, number_of}
 use Rattle.grid_split.proofs.NeighbourFound.{steps_across, some_neighbour}
 use Rattle.volume_pieces.proofs.AcrossStands.{volume_dimension}
+use Rattle.lists.proofs.MemberLaws.{Contains_from, In-numbers, In-filter}
 
 -- where each cell is kept, each cell of the grid is a kept cell
 pub all_cells : (v : Volume) → KeepsAll v → (c : ℕ) → c < cell_count v.kind v.sizes → Contains (cells v) c
@@ -72,7 +72,8 @@ module _ (v : Volume) (regular : IsRegularVolume v) where
       | inl none ↦ inr (inl (down, none))
       | inr some ↦ inl (subst (λ (t : ℤ). (pos (stepped x t) ≡ pos x +ℤ t) × (stepped x t + 1 < n)) (sym down) (omega (arith, ints, some), omega (arith, h)))
     ]
-    step_case x n s h (inr (inl stay)) = inl (subst (λ (t : ℤ). (pos (stepped x t) ≡ pos x +ℤ t) × (stepped x t + 1 < n)) (sym stay) (omega (arith, ints), omega (arith, h)))
+    step_case x n s h (inr (inl stay)) =
+        inl (subst (λ (t : ℤ). (pos (stepped x t) ≡ pos x +ℤ t) × (stepped x t + 1 < n)) (sym stay) (omega (arith, ints), omega (arith, h)))
     step_case x n s h (inr (inr up)) = elim (cases_eq (x + 2) n) [
       | inl last ↦ inr (inr (up, last))
       | inr more ↦ inl (subst (λ (t : ℤ). (pos (stepped x t) ≡ pos x +ℤ t) × (stepped x t + 1 < n)) (sym up) (omega (arith, ints), omega (arith, h, more)))
@@ -80,7 +81,8 @@ module _ (v : Volume) (regular : IsRegularVolume v) where
 
     at_axis : (i : ℕ) → i < length v.sizes → Inside i ⊎ Leaves i
     at_axis i h =
-        step_case (x_at i) (slice_index v.sizes i) (shift_at v.kind v.sizes c f i) (cube_below v.sizes (c / cells_per_cube v.kind (length v.sizes)) (cube_in v.kind v.sizes c hc) i h)
+        step_case (x_at i) (slice_index v.sizes i) (shift_at v.kind v.sizes c f i)
+        (cube_below v.sizes (c / cells_per_cube v.kind (length v.sizes)) (cube_in v.kind v.sizes c hc) i h)
         (steps_across v.kind (length v.sizes) (rank_of v.kind v.sizes c) f i h)
 
     axes_below : (n : ℕ) → n ≤ length v.sizes → ((i : ℕ) → i < n → Inside i) ⊎ LeavesGrid v.kind v.sizes c f
@@ -107,7 +109,8 @@ module _ (v : Volume) (regular : IsRegularVolume v) where
     neighbour_inside inside =
         let number = number_before v.sizes place_at (length v.sizes) in
         let is_number = number_of v.sizes place_at (λ i h. (inside i h).1) in
-        let at : IsShiftedCube (length v.sizes) v.sizes (cube_of v.kind v.sizes c) (shift_across v.kind (length v.sizes) (rank_of v.kind v.sizes c) f) number = record {
+        let at : IsShiftedCube (length v.sizes) v.sizes (cube_of v.kind v.sizes c) (shift_across v.kind (length v.sizes) (rank_of v.kind v.sizes c) f)
+        number = record {
           below = is_number.below;
           places = λ i h. let place = is_number.at i h in let step = (inside i h).0 in omega (arith, ints, place, step);
         } in
@@ -115,7 +118,8 @@ module _ (v : Volume) (regular : IsRegularVolume v) where
         let across = found_across v.kind (length v.sizes) is regular.fits rank f hr hf in
         let found = number * cells_per_cube v.kind (length v.sizes) + next.0 in (
           found,
-          (some_neighbour v.kind v.sizes (length v.sizes) c f rank next.0 next.1 (cube_of v.kind v.sizes c) (shift_across v.kind (length v.sizes) rank f) refl hc hf refl refl refl across
+          (some_neighbour v.kind v.sizes (length v.sizes) c f rank next.0 next.1 (cube_of v.kind v.sizes c)
+              (shift_across v.kind (length v.sizes) rank f) refl hc hf refl refl refl across
               (λ other. neighbour_is v.kind v.sizes is regular.fits c f other hc hf) (boundary_is v.kind v.sizes is regular.fits c f hc hf)
               (λ p h a. (one_across v.kind (length v.sizes) is regular.fits rank f next.0 next.1 p h hr hf across a).0) number at found).1 refl,
         )

@@ -1,22 +1,21 @@
 -- On each side of a cube, some facet of one of its cells lies in the side and has all corners that a given cell has there.
-use Rattle.std.proofs.Common.{◌≡◌, ℕ, ◌<◌, Bool, true, not, ◌&&◌, ◌||◌, List, refl, ap, sym, ◌∙◌, subst, arith}
+use Rattle.std.proofs.Common.{◌≡◌, ℕ, ◌<◌, Bool, true, not, ◌&&◌, ◌||◌, List, refl, ap, sym, ◌∙◌, subst}
 use Rattle.std.specs.Prelude.{◌==◌, map, flat_map, filter, slice_index}
 use Rattle.std.specs.List.{list_all, list_any}
 use Rattle.std.proofs.lemmas.Bool.{eqb-true}
-use Rattle.std.proofs.lemmas.Bool.Decides.{nat_tests}
 use Rattle.iso_model.specs.declared.Kind.{Kind}
-use Rattle.iso_model.specs.Orders.{numbers, same_list}
+use Rattle.lists.specs.Orders.{numbers, same_list}
 use Rattle.iso_model.specs.Cells.{HasDimension, corner_count, facet_count}
 use Rattle.iso_model.specs.Splits.{cells_per_cube, corner_offset}
 use Rattle.iso_model.specs.Neighbours.{facet_offsets}
 use Rattle.iso_model.specs.Boundary.{has_point}
-use Rattle.cell_lattice.specs.Dimensions.{IsDimension, of_each_cell}
-use Rattle.split_checks.specs.Moves.{offsets, facet_of}
+use Rattle.iso_model.specs.Dimensions.{IsDimension, of_each_cell}
+use Rattle.split_checks.specs.CubeShifts.{offsets, facet_of}
 use Rattle.split_checks.specs.ShareTests.{all_offsets}
-use Rattle.mesh_laws.proofs.Members.{In, In-map, from_In-map, from_In-flat_map}
-use Rattle.split_laws.proofs.Members.{and_left, and_right, not_or, In-numbers, from_In-numbers, from_any, from_filter, all_In, all_below}
-use Rattle.split_laws.proofs.Offsets.{lists_equal}
 use Rattle.split_laws.proofs.Placement.{facet_of_offsets}
+use Rattle.lists.specs.Members.{In}
+use Rattle.lists.proofs.Tests.{not_or, and_left, and_right, of_equal}
+use Rattle.lists.proofs.MemberLaws.{from_any, all_In, In-numbers, from_In-numbers, all_below, from_filter, In-map, from_In-map, from_In-flat_map, lists_equal}
 
 -- ---- the test
 
@@ -61,20 +60,22 @@ module _ (kind : Kind) (d : ℕ) (is : IsDimension d) (fits : HasDimension kind 
   abbrev all : List (List (List ℕ))
   all = all_offsets kind d
 
-  equal : (a b : ℕ) → a ≡ b → (a == b) ≡ true
-  equal a b e = grind (arith, nat_tests, e)
-
   -- a facet that lies there and has all offsets there
-  covers : (rank i x next f : ℕ) (side : List (List ℕ)) → next < cells_per_cube kind d → f < facet_count kind d → side ≡ facet_offsets kind d next f → lie_at i x side ≡ true
+  covers : (rank i x next f : ℕ) (side : List (List ℕ)) → next < cells_per_cube kind d → f < facet_count kind d → side ≡ facet_offsets kind d next f
+      → lie_at i x side ≡ true
       → list_all (λ p. not (slice_index p i == x) || has_point side p) (offsets kind d rank) ≡ true → CoversSide kind d rank i x next f
   covers rank i x next f side hn hf is_side lie cover = record {
     is_rank = hn;
     is_facet = hf;
     lies = λ p j. eqb-true (slice_index p i) x (all_In (λ q. slice_index q i == x) side lie p (subst (λ (s : List (List ℕ)). In p s) (sym is_side) j));
     has = λ k hk at.
-        let tested = all_In (λ q. not (slice_index q i == x) || has_point side q) (offsets kind d rank) cover (corner_offset kind d rank k) (In-map (corner_offset kind d rank) (numbers (corner_count kind d)) k (In-numbers (corner_count kind d) k hk)) in
+        let tested =
+        all_In (λ q. not (slice_index q i == x) || has_point side q) (offsets kind d rank) cover (corner_offset kind d rank k)
+        (In-map (corner_offset kind d rank) (numbers (corner_count kind d)) k (In-numbers (corner_count kind d) k hk)) in
         subst (λ (s : List (List ℕ)). In (corner_offset kind d rank k) s) is_side
-        (member (corner_offset kind d rank k) side (not_or (slice_index (corner_offset kind d rank k) i == x) (has_point side (corner_offset kind d rank k)) tested (equal (slice_index (corner_offset kind d rank k) i) x at)));
+        (member (corner_offset kind d rank k) side
+        (not_or (slice_index (corner_offset kind d rank k) i == x) (has_point side (corner_offset kind d rank k)) tested
+        (of_equal (slice_index (corner_offset kind d rank k) i) x at)));
   }
     where
       member : (p : List ℕ) (points : List (List ℕ)) → has_point points p ≡ true → In p points
@@ -83,7 +84,8 @@ module _ (kind : Kind) (d : ℕ) (is : IsDimension d) (fits : HasDimension kind 
           subst (λ (q : List ℕ). In q points) (sym (lists_equal p found.0 found.2)) found.1
 
   -- a facet among those of all cells
-  is_of : (side : List (List ℕ)) → In side (flat_map (facets_of kind d) (all_offsets kind d)) → (next : ℕ) × (f : ℕ) × (next < cells_per_cube kind d) × (f < facet_count kind d) × (side ≡ facet_offsets kind d next f)
+  is_of : (side : List (List ℕ)) → In side (flat_map (facets_of kind d) (all_offsets kind d))
+      → (next : ℕ) × (f : ℕ) × (next < cells_per_cube kind d) × (f < facet_count kind d) × (side ≡ facet_offsets kind d next f)
   is_of side i =
       let cell = from_In-flat_map (facets_of kind d) all side i in
       let next = from_In-map (offsets kind d) (numbers (cells_per_cube kind d)) cell.0 cell.1 in
@@ -95,7 +97,8 @@ module _ (kind : Kind) (d : ℕ) (is : IsDimension d) (fits : HasDimension kind 
         facet.2 ∙ ap (λ (c : List (List ℕ)). facet_of kind d c facet.0) next.2 ∙ facet_of_offsets kind d next.0 facet.0,
       )
 
-  at_side : (rank i x : ℕ) → rank < cells_per_cube kind d → covered_at kind d (all_offsets kind d) i x ≡ true → (next : ℕ) × (f : ℕ) × CoversSide kind d rank i x next f
+  at_side : (rank i x : ℕ) → rank < cells_per_cube kind d → covered_at kind d (all_offsets kind d) i x ≡ true
+      → (next : ℕ) × (f : ℕ) × CoversSide kind d rank i x next f
   at_side rank i x hr passes =
       let cell_in = In-map (offsets kind d) (numbers (cells_per_cube kind d)) rank (In-numbers (cells_per_cube kind d) rank hr) in
       let covered = all_In (is_covered i x (sides_at kind d all i x)) all passes (offsets kind d rank) cell_in in
@@ -107,8 +110,12 @@ module _ (kind : Kind) (d : ℕ) (is : IsDimension d) (fits : HasDimension kind 
   -- on the lower side of the cube in an axis, and on the upper one
   pub low_side : (rank i : ℕ) → rank < cells_per_cube kind d → i < d → (next : ℕ) × (f : ℕ) × CoversSide kind d rank i 0 next f
   low_side rank i hr hi =
-      at_side rank i 0 hr (and_left (covered_at kind d all i 0) (covered_at kind d all i 2) (all_below d (λ j. covered_at kind d all j 0 && covered_at kind d all j 2) (sides_pass kind d is fits) i hi))
+      at_side rank i 0 hr
+      (and_left (covered_at kind d all i 0) (covered_at kind d all i 2)
+      (all_below d (λ j. covered_at kind d all j 0 && covered_at kind d all j 2) (sides_pass kind d is fits) i hi))
 
   pub high_side : (rank i : ℕ) → rank < cells_per_cube kind d → i < d → (next : ℕ) × (f : ℕ) × CoversSide kind d rank i 2 next f
   high_side rank i hr hi =
-      at_side rank i 2 hr (and_right (covered_at kind d all i 0) (covered_at kind d all i 2) (all_below d (λ j. covered_at kind d all j 0 && covered_at kind d all j 2) (sides_pass kind d is fits) i hi))
+      at_side rank i 2 hr
+      (and_right (covered_at kind d all i 0) (covered_at kind d all i 2)
+      (all_below d (λ j. covered_at kind d all j 0 && covered_at kind d all j 2) (sides_pass kind d is fits) i hi))

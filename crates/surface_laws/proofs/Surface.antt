@@ -1,7 +1,7 @@
 -- The placed mesh of an accepted table in a regular volume is closed, placed and sided.
 use Rattle.std.proofs.Common.{◌≡◌, ℕ, zero, suc, ◌<◌, List, [], ◌∷◌, length, refl, subst}
 use Rattle.std.specs.Prelude.{All, Contains, IsTrue}
-use Rattle.iso_model.specs.Orders.{without, is_distinct}
+use Rattle.lists.specs.Orders.{without, is_distinct}
 use Rattle.iso_model.specs.Neighbours.{HasEdge}
 use Rattle.iso_model.specs.Values.{Volume, IsRegularVolume, cells}
 use Rattle.iso_model.specs.Bipolar.{bipolar_edges, bipolar_edge}
@@ -9,19 +9,19 @@ use Rattle.iso_model.specs.Faces.{face_without}
 use Rattle.iso_model.specs.Tables.{Table}
 use Rattle.iso_model.specs.Placed.{placed_mesh}
 use Rattle.iso_model.specs.Surface.{IsClosed, IsCellAt, IsCellOf, IsPlaced, IsSided}
-use Rattle.iso_model.proofs.Deciding.{All-from_each, each-from_All}
-use Rattle.mesh_laws.proofs.Members.{In, Contains_from, In-flat_map}
-use Rattle.mesh_laws.proofs.FaceSigns.{Each, Each-In, Each-from_In, Each-sorted}
-use Rattle.split_laws.proofs.Members as Split
+use Rattle.mesh_laws.proofs.FaceSigns.{Each-sorted}
 use Rattle.glue_laws.proofs.Pieces.{Has, Laws, piece, placed_simplices}
 use Rattle.glue_laws.proofs.GluedFaces as Glued
 use Rattle.glue_laws.proofs.InOneCell as One
 use Rattle.volume_pieces.proofs.PiecesOf.{pieces_of}
 use Rattle.volume_pieces.proofs.Edges.{place_edge, has_edge}
 use Rattle.volume_pieces.proofs.FreeFacets.{on_boundary, on_free}
-use Rattle.side_law.proofs.Sided as Side
+use Rattle.surface_laws.proofs.Sided as Side
 use Rattle.surface_laws.proofs.AcceptedEntries.{Serves, cell_laws}
 use Rattle.surface_laws.proofs.LawfulPieces.{label_signs, labels_below, places_hold, laws_of}
+use Rattle.lists.specs.Members.{In, Each}
+use Rattle.lists.proofs.Contained.{All-from_each, each-from_All}
+use Rattle.lists.proofs.MemberLaws.{Contains_from, In-flat_map, Each-In, Each-from_In, In_from}
 
 -- what holds of each number holds of each but one
 Each-without : (D : ℕ → Type 0) (i : ℕ) (w : List ℕ) → Each D w → Each D (without i w)
@@ -43,7 +43,7 @@ module _ (v : Volume) (t : Table) (regular : IsRegularVolume v) (serves : Serves
   simplices = placed_simplices (pieces_of v t)
 
   member : (w : List ℕ) → Contains (placed_simplices (pieces_of v t)) w → In w (placed_simplices (pieces_of v t))
-  member w has = Split.In_from simplices w has
+  member w has = In_from simplices w has
 
   -- ---- cells that have edges
 
@@ -55,11 +55,12 @@ module _ (v : Volume) (t : Table) (regular : IsRegularVolume v) (serves : Serves
   pub to_edges : (c : ℕ) (w : List ℕ) → In c (cells v) → Each (Has (pieces_of v t) c) w → All (λ k. HasEdge v.kind v.sizes c (bipolar_edge v k)) w
   to_edges c w i all =
       All-from_each (λ k. HasEdge v.kind v.sizes c (bipolar_edge v k)) w (λ k has.
-      let at = Each-In (Has (pieces_of v t) c) w all k (Split.In_from w k has) in
+      let at = Each-In (Has (pieces_of v t) c) w all k (In_from w k has) in
       (has_edge v regular t c k i (place_few c k i at)).0 at)
 
   -- and the other way round, for places of another cell
-  pub from_edges : (c d : ℕ) (w : List ℕ) → In c (cells v) → In d (cells v) → Each (Has (pieces_of v t) d) w → All (λ k. HasEdge v.kind v.sizes c (bipolar_edge v k)) w → Each (Has (pieces_of v t) c) w
+  pub from_edges : (c d : ℕ) (w : List ℕ) → In c (cells v) → In d (cells v) → Each (Has (pieces_of v t) d) w
+      → All (λ k. HasEdge v.kind v.sizes c (bipolar_edge v k)) w → Each (Has (pieces_of v t) c) w
   from_edges c d w i j places all =
       Each-from_In (Has (pieces_of v t) c) w (λ k m.
       (has_edge v regular t c k i (place_few d k j (Each-In (Has (pieces_of v t) d) w places k m))).1
@@ -87,14 +88,14 @@ module _ (v : Volume) (t : Table) (regular : IsRegularVolume v) (serves : Serves
         one.cell,
         (Contains_from (cells v) one.cell one.is_cell, to_edges one.cell w one.is_cell one.has),
         λ other is.
-            let i = Split.In_from (cells v) other is.0 in
+            let i = In_from (cells v) other is.0 in
             one.only other i (from_edges other one.cell w i one.is_cell one.has is.1),
       )
 
   everywhere : (k cell : ℕ) → k < length (bipolar_edges v) → IsCellAt v (bipolar_edge v k) cell →
       (w : List ℕ) × Contains (placed_simplices (pieces_of v t)) w × IsCellOf v w cell × Contains w k
   everywhere k cell hk at =
-      let i = Split.In_from (cells v) cell at.0 in
+      let i = In_from (cells v) cell at.0 in
       let s = One.everywhere (pieces_of v t) laws cell k i ((has_edge v regular t cell k i hk).1 at.1) in (
         s.0,
         Contains_from simplices s.0 (In-flat_map (piece (pieces_of v t)) (cells v) cell s.0 i s.1),

@@ -5,7 +5,7 @@ use Rattle.std.proofs.lemmas.Bool.{both_ways}
 use Rattle.iso_model.specs.declared.Kind.{Kind}
 use Rattle.iso_model.specs.Seams.{seams}
 use Rattle.iso_model.specs.Tables.{Table, entry_of}
-use Rattle.iso_model.specs.Acceptance.{rule, rule_edges, rule_inside, rule_faces, rule_side, rule_fans, rule_seams, Keeps}
+use Rattle.iso_model.specs.Acceptance.{rule, rule_edges, rule_inside, rule_faces, rule_side, rule_path, rule_seams, Keeps}
 use Rattle.table_check.specs.Verdicts.{KeepsAll, FailsFirst}
 
 -- ---- keeping and failing
@@ -38,27 +38,35 @@ pub record IsLabelAt (t : Table) (label : ℕ) (kind : Kind) (d : ℕ) (ws : Lis
   pub dimension_is : t.dimension ≡ d
   pub tuples_are : ws ≡ entry_of t label
 
-told : (f : Kind → ℕ → List (List ℕ) → Bool) (t : Table) (label : ℕ) (kind : Kind) (d : ℕ) (ws : List (List ℕ)) (b : Bool) → IsLabelAt t label kind d ws → b ≡ f kind d ws
+told : (f : Kind → ℕ → List (List ℕ) → Bool) (t : Table) (label : ℕ) (kind : Kind) (d : ℕ) (ws : List (List ℕ)) (b : Bool)
+    → IsLabelAt t label kind d ws → b ≡ f kind d ws
     → f t.kind t.dimension (entry_of t label) ≡ b
 told f t label kind d ws b is e =
-    ap (λ k. f k t.dimension (entry_of t label)) is.kind_is ∙ ap (λ n. f kind n (entry_of t label)) is.dimension_is ∙ ap (λ v. f kind d v) (sym is.tuples_are) ∙ sym e
+    ap (λ k. f k t.dimension (entry_of t label)) is.kind_is ∙ ap (λ n. f kind n (entry_of t label)) is.dimension_is
+        ∙ ap (λ v. f kind d v) (sym is.tuples_are) ∙ sym e
 
-pub told_edges : (t : Table) (label : ℕ) (kind : Kind) (d : ℕ) (ws : List (List ℕ)) (b : Bool) → IsLabelAt t label kind d ws → b ≡ rule_edges kind d label ws → rule t label 1 ≡ b
+pub told_edges : (t : Table) (label : ℕ) (kind : Kind) (d : ℕ) (ws : List (List ℕ)) (b : Bool) → IsLabelAt t label kind d ws
+    → b ≡ rule_edges kind d label ws → rule t label 1 ≡ b
 told_edges t label = told (λ k n v. rule_edges k n label v) t label
 
-pub told_inside : (t : Table) (label : ℕ) (kind : Kind) (d : ℕ) (ws : List (List ℕ)) (b : Bool) → IsLabelAt t label kind d ws → b ≡ rule_inside kind d ws → rule t label 2 ≡ b
+pub told_inside : (t : Table) (label : ℕ) (kind : Kind) (d : ℕ) (ws : List (List ℕ)) (b : Bool) → IsLabelAt t label kind d ws
+    → b ≡ rule_inside kind d ws → rule t label 2 ≡ b
 told_inside t label = told (λ k n v. rule_inside k n v) t label
 
-pub told_faces : (t : Table) (label : ℕ) (kind : Kind) (d : ℕ) (ws : List (List ℕ)) (b : Bool) → IsLabelAt t label kind d ws → b ≡ rule_faces kind d ws → rule t label 3 ≡ b
+pub told_faces : (t : Table) (label : ℕ) (kind : Kind) (d : ℕ) (ws : List (List ℕ)) (b : Bool) → IsLabelAt t label kind d ws
+    → b ≡ rule_faces kind d ws → rule t label 3 ≡ b
 told_faces t label = told (λ k n v. rule_faces k n v) t label
 
-pub told_side : (t : Table) (label : ℕ) (kind : Kind) (d : ℕ) (ws : List (List ℕ)) (b : Bool) → IsLabelAt t label kind d ws → b ≡ rule_side kind d label ws → rule t label 4 ≡ b
+pub told_side : (t : Table) (label : ℕ) (kind : Kind) (d : ℕ) (ws : List (List ℕ)) (b : Bool) → IsLabelAt t label kind d ws
+    → b ≡ rule_side kind d label ws → rule t label 4 ≡ b
 told_side t label = told (λ k n v. rule_side k n label v) t label
 
-pub told_fans : (t : Table) (label : ℕ) (kind : Kind) (d : ℕ) (ws : List (List ℕ)) (b : Bool) → IsLabelAt t label kind d ws → b ≡ rule_fans kind d label ws → rule t label 5 ≡ b
-told_fans t label = told (λ k n v. rule_fans k n label v) t label
+pub told_path : (t : Table) (label : ℕ) (kind : Kind) (d : ℕ) (ws : List (List ℕ)) (b : Bool) → IsLabelAt t label kind d ws
+    → b ≡ rule_path kind d label ws → rule t label 5 ≡ b
+told_path t label = told (λ k n v. rule_path k n label v) t label
 
-pub told_seams : (t : Table) (label : ℕ) (kind : Kind) (d : ℕ) (ws : List (List ℕ)) (b : Bool) → IsLabelAt t label kind d ws → b ≡ rule_seams (seams kind d) t label → rule t label 6 ≡ b
+pub told_seams : (t : Table) (label : ℕ) (kind : Kind) (d : ℕ) (ws : List (List ℕ)) (b : Bool) → IsLabelAt t label kind d ws
+    → b ≡ rule_seams (seams kind d) t label → rule t label 6 ≡ b
 told_seams t label = told (λ k n v. rule_seams (seams k n) t label) t label
 
 -- an answer that is read is that of the rule
@@ -67,20 +75,28 @@ read b answer told h e = sym h ∙ e
 
 -- ---- the first rules are kept
 
-pub kept_one : (t : Table) (label : ℕ) (kind : Kind) (d : ℕ) (ws : List (List ℕ)) → IsLabelAt t label kind d ws → true ≡ rule_edges kind d label ws → KeepsBelow t label 2
+pub kept_one : (t : Table) (label : ℕ) (kind : Kind) (d : ℕ) (ws : List (List ℕ)) → IsLabelAt t label kind d ws → true ≡ rule_edges kind d label ws
+    → KeepsBelow t label 2
 kept_one t label kind d ws is edges = one_kept t label 1 (none_asked t label) (told_edges t label kind d ws true is edges)
 
-pub kept_two : (t : Table) (label : ℕ) (kind : Kind) (d : ℕ) (ws : List (List ℕ)) → IsLabelAt t label kind d ws → true ≡ rule_edges kind d label ws → true ≡ rule_inside kind d ws → KeepsBelow t label 3
+pub kept_two : (t : Table) (label : ℕ) (kind : Kind) (d : ℕ) (ws : List (List ℕ)) → IsLabelAt t label kind d ws → true ≡ rule_edges kind d label ws
+    → true ≡ rule_inside kind d ws → KeepsBelow t label 3
 kept_two t label kind d ws is edges inside = one_kept t label 2 (kept_one t label kind d ws is edges) (told_inside t label kind d ws true is inside)
 
-pub kept_three : (t : Table) (label : ℕ) (kind : Kind) (d : ℕ) (ws : List (List ℕ)) → IsLabelAt t label kind d ws → true ≡ rule_edges kind d label ws → true ≡ rule_inside kind d ws
+pub kept_three : (t : Table) (label : ℕ) (kind : Kind) (d : ℕ) (ws : List (List ℕ)) → IsLabelAt t label kind d ws → true ≡ rule_edges kind d label ws
+    → true ≡ rule_inside kind d ws
     → true ≡ rule_faces kind d ws → KeepsBelow t label 4
-kept_three t label kind d ws is edges inside faces = one_kept t label 3 (kept_two t label kind d ws is edges inside) (told_faces t label kind d ws true is faces)
+kept_three t label kind d ws is edges inside faces =
+    one_kept t label 3 (kept_two t label kind d ws is edges inside) (told_faces t label kind d ws true is faces)
 
-pub kept_four : (t : Table) (label : ℕ) (kind : Kind) (d : ℕ) (ws : List (List ℕ)) → IsLabelAt t label kind d ws → true ≡ rule_edges kind d label ws → true ≡ rule_inside kind d ws
+pub kept_four : (t : Table) (label : ℕ) (kind : Kind) (d : ℕ) (ws : List (List ℕ)) → IsLabelAt t label kind d ws → true ≡ rule_edges kind d label ws
+    → true ≡ rule_inside kind d ws
     → true ≡ rule_faces kind d ws → true ≡ rule_side kind d label ws → KeepsBelow t label 5
-kept_four t label kind d ws is edges inside faces side = one_kept t label 4 (kept_three t label kind d ws is edges inside faces) (told_side t label kind d ws true is side)
+kept_four t label kind d ws is edges inside faces side =
+    one_kept t label 4 (kept_three t label kind d ws is edges inside faces) (told_side t label kind d ws true is side)
 
-pub kept_five : (t : Table) (label : ℕ) (kind : Kind) (d : ℕ) (ws : List (List ℕ)) → IsLabelAt t label kind d ws → true ≡ rule_edges kind d label ws → true ≡ rule_inside kind d ws
-    → true ≡ rule_faces kind d ws → true ≡ rule_side kind d label ws → true ≡ rule_fans kind d label ws → KeepsBelow t label 6
-kept_five t label kind d ws is edges inside faces side fans = one_kept t label 5 (kept_four t label kind d ws is edges inside faces side) (told_fans t label kind d ws true is fans)
+pub kept_five : (t : Table) (label : ℕ) (kind : Kind) (d : ℕ) (ws : List (List ℕ)) → IsLabelAt t label kind d ws → true ≡ rule_edges kind d label ws
+    → true ≡ rule_inside kind d ws
+    → true ≡ rule_faces kind d ws → true ≡ rule_side kind d label ws → true ≡ rule_path kind d label ws → KeepsBelow t label 6
+kept_five t label kind d ws is edges inside faces side path =
+    one_kept t label 5 (kept_four t label kind d ws is edges inside faces side) (told_path t label kind d ws true is path)

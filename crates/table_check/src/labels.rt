@@ -9,7 +9,7 @@ ghost use Rattle.table_check.specs.Verdicts.{IsVerdictOn, KeepsAll, FailsFirst};
 use crate::Verdict;
 use cell_lattice::Cell;
 use face_tallies::{FaceTally, TallyRoom, keeps_faces, tally};
-use fan_rule::keeps_fans;
+use path_rule::keeps_path;
 use iso_base::Memory;
 use label_rules::Figures;
 use seam_traces::Traces;
@@ -65,7 +65,7 @@ fn first_failed<C: Cell<D>, const D: usize>(
     if !figures.keeps_side(label, tuples) {
         return Some(4);
     }
-    if !keeps_fans(figures.facets(), figures.bipolar(label), tuples) {
+    if !keeps_path(figures.facets(), figures.bipolar(label), tuples) {
         return Some(5);
     }
     if !traces.keeps_seams(label, tallies) {

@@ -2,18 +2,19 @@
 use Rattle.std.specs.Prelude.{◌≡◌, ℕ, ◌+◌, ◌-◌, ◌*◌, ◌^◌, ◌<◌, ◌≤◌, List, [], ◌∷◌, ◌++◌, flat_map, replicate, length, take, drop, All}
 use Rattle.std.specs.Simd.{first_chunks}
 use Rattle.std.proofs.Common.{sym, ap, ◌∙◌, subst, arith}
-use Rattle.std.proofs.lemmas.List.{append_assoc, append-nil, take-append-drop, take-append-le, take-take, take_all, length-take-le, length-append, length-replicate, nil_from_length}
+use Rattle.std.proofs.lemmas.List.{append_assoc, append-nil, take-append-drop, take-append-le, take-take, take_all, length-take-le, length-append}
+use Rattle.std.proofs.lemmas.List.{length-replicate, nil_from_length}
 use Rattle.std.proofs.lemmas.List.Concat.{flat_map-append}
 use Rattle.std.proofs.lemmas.List.Elements.{All-nil, All-append, All-cons, All-replicate}
 use Rattle.iso_model.specs.declared.Kind.{Kind}
 use Rattle.iso_model.specs.Cells.{HasDimension, edge_count, label_count}
 use Rattle.iso_model.specs.Tables.{IsTable, IsEntry, IsTuple}
-use Rattle.iso_model.specs.TableFile.{head_bytes, table_bytes, entry_bytes, big_endian, BeginsTable, IsWholeTable, StopsAt}
-use Rattle.iso_model.proofs.TableLaws.{table_reads_on}
+use Rattle.iso_formats.specs.TableFile.{head_bytes, table_bytes, entry_bytes, big_endian, BeginsTable, IsWholeTable, StopsAt}
+use Rattle.iso_formats.proofs.TableLaws.{table_reads_on}
 use Rattle.table_file.specs.Heads.{BeginsHead, StopsInHead}
-use Rattle.table_file.specs.Entries.{IsCutOff}
+use Rattle.table_file.specs.HeldEntries.{IsCutOff}
 use Rattle.table_file.proofs.Chunks.{length-first_chunks, flat_map-first_chunks, rows-first_chunks}
-use Rattle.table_file.proofs.Rows.{small_counts}
+use Rattle.table_file.proofs.TupleRows.{small_counts}
 use Rattle.table_file.proofs.HeadLaws.{table_head}
 use Rattle.table_file.proofs.Progress.{table_of, HasRead, labels_same}
 
@@ -31,17 +32,27 @@ filled_is_table : (kind : Kind) (d : ℕ) (es : List (List (List ℕ))) → HasD
 unfolding filled
 filled_is_table kind d es fits sound few = record {
   fits = fits;
-  whole = omega (arith, few, length-append es (replicate (label_count kind d - length es) []), length-replicate (label_count kind d - length es) (let e : List (List ℕ) = [] in e));
+  whole =
+      omega
+          (
+            arith,
+            few,
+            length-append es (replicate (label_count kind d - length es) []),
+            length-replicate (label_count kind d - length es) (let e : List (List ℕ) = [] in e)
+          );
   sound = All-append (IsEntry kind d) es _ sound (All-replicate (IsEntry kind d) (label_count kind d - length es) [] (empty_entry kind d));
 }
 
-table_bytes-append : (kind : Kind) (d : ℕ) (es gs : List (List (List ℕ))) → table_bytes (table_of kind d (es ++ gs)) ≡ table_bytes (table_of kind d es) ++ flat_map entry_bytes gs
+table_bytes-append : (kind : Kind) (d : ℕ) (es gs : List (List (List ℕ)))
+    → table_bytes (table_of kind d (es ++ gs)) ≡ table_bytes (table_of kind d es) ++ flat_map entry_bytes gs
 unfolding table_bytes
 table_bytes-append kind d es gs =
-    ap (λ (l : List ℕ). head_bytes 1 kind d ++ l) (flat_map-append entry_bytes es gs) ∙ sym (append_assoc (head_bytes 1 kind d) (flat_map entry_bytes es) (flat_map entry_bytes gs))
+    ap (λ (l : List ℕ). head_bytes 1 kind d ++ l) (flat_map-append entry_bytes es gs)
+        ∙ sym (append_assoc (head_bytes 1 kind d) (flat_map entry_bytes es) (flat_map entry_bytes gs))
 
 -- the head and some entries begin a table
-pub begins_entries : (kind : Kind) (d : ℕ) (es : List (List (List ℕ))) (bytes more : List ℕ) → HasDimension kind d → All (IsEntry kind d) es → length es ≤ label_count kind d
+pub begins_entries : (kind : Kind) (d : ℕ) (es : List (List (List ℕ))) (bytes more : List ℕ) → HasDimension kind d → All (IsEntry kind d) es
+    → length es ≤ label_count kind d
     → bytes ++ more ≡ table_bytes (table_of kind d es) → BeginsTable bytes
 begins_entries kind d es bytes more fits sound few e =
     let rest = flat_map entry_bytes (filled (label_count kind d - length es)) in (
@@ -54,10 +65,12 @@ begins_entries kind d es bytes more fits sound few e =
     )
 
 -- what stands before the place and then a front of an entry
-pub begins_entry : (kind : Kind) (d : ℕ) (bytes : List ℕ) (es : List (List (List ℕ))) (place : ℕ) (g : List (List ℕ)) (more : List ℕ) → HasRead kind d bytes es place
+pub begins_entry : (kind : Kind) (d : ℕ) (bytes : List ℕ) (es : List (List (List ℕ))) (place : ℕ) (g : List (List ℕ)) (more : List ℕ)
+    → HasRead kind d bytes es place
     → length es < label_count kind d → IsEntry kind d g → drop place bytes ++ more ≡ entry_bytes g → BeginsTable bytes
 begins_entry kind d bytes es place g more r few s e =
-    begins_entries kind d (es ++ g ∷ []) bytes more r.fits (All-append (IsEntry kind d) es (g ∷ []) r.sound (All-cons (IsEntry kind d) g [] s (All-nil (IsEntry kind d))))
+    begins_entries kind d (es ++ g ∷ []) bytes more r.fits
+        (All-append (IsEntry kind d) es (g ∷ []) r.sound (All-cons (IsEntry kind d) g [] s (All-nil (IsEntry kind d))))
     (omega (arith, few, length-append es (g ∷ [])))
     (
     ap (λ (l : List ℕ). l ++ more) r.split ∙ append_assoc (table_bytes (table_of kind d es)) (drop place bytes) more
@@ -89,7 +102,8 @@ begins_cut kind d bytes es place r few c =
     (ap (λ (l : List ℕ). l ++ zeros) c.split ∙ append_assoc (big_endian 4 c.count) c.before zeros ∙ sym t.2)
 
 -- a front of a count
-pub begins_count : (kind : Kind) (d : ℕ) (bytes : List ℕ) (es : List (List (List ℕ))) (place count : ℕ) → HasRead kind d bytes es place → length es < label_count kind d
+pub begins_count : (kind : Kind) (d : ℕ) (bytes : List ℕ) (es : List (List (List ℕ))) (place count : ℕ) → HasRead kind d bytes es place
+    → length es < label_count kind d
     → count ≤ 2 ^ 28 → length (drop place bytes) < 4 → drop place bytes ≡ take (length (drop place bytes)) (big_endian 4 count) → BeginsTable bytes
 begins_count kind d bytes es place count r few small short e =
     let flat : List ℕ = replicate (count * d) 0 in
@@ -154,7 +168,8 @@ no_longer front more w b =
     ap (λ (l : List ℕ). l ++ (more ++ b.1)) (sym w.1.1) ∙ sym (append_assoc front more b.1) ∙ b.2.1 ∙ sym (append-nil (table_bytes b.0)) in
     let r = table_reads_on t.kind t.dimension t.entries b.0 (more ++ b.1) [] b.2.0 w.1.0.sound (omega (arith, w.1.0.whole)) whole in
     let labels = labels_same t.kind t.dimension t.entries b.0 (more ++ b.1) [] b.2.0 r in
-    let long : length r.on.further ≡ 0 = omega (arith, w.1.0.whole, labels, ap (λ (l : List (List (List ℕ))). length l) r.on.is, length-append t.entries r.on.further) in
+    let long : length r.on.further ≡ 0 =
+        omega (arith, w.1.0.whole, labels, ap (λ (l : List (List (List ℕ))). length l) r.on.is, length-append t.entries r.on.further) in
     let rest : more ++ b.1 ≡ flat_map entry_bytes [] ++ [] =
     r.on.rest ∙ ap (λ (l : List (List (List ℕ))). flat_map entry_bytes l ++ []) (nil_from_length r.on.further long) in
     nil_from_length more (omega (arith, length-append more b.1, ap (λ (l : List ℕ). length l) rest))

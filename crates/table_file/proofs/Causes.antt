@@ -5,11 +5,11 @@ use Rattle.std.proofs.lemmas.Bool.{cases_lt}
 use Rattle.std.proofs.lemmas.List.{append_assoc, take_all, take_at, length-drop, length-append}
 use Rattle.iso_model.specs.declared.Kind.{Kind}
 use Rattle.iso_model.specs.Cells.{label_count}
-use Rattle.iso_model.specs.TableFile.{table_bytes, big_endian, BeginsTable, CountPasses, IsWrongEdge}
+use Rattle.iso_formats.specs.TableFile.{table_bytes, big_endian, BeginsTable, CountPasses, IsWrongEdge}
 use Rattle.table_file.specs.declared.faults.TableFault.{TableFault}
 use Rattle.table_file.specs.declared.faults.TableFault.TheVariants.{Magic, Kind as KindFault, EdgeNumber, Short, Extra, Memory}
 use Rattle.table_file.specs.Heads.{StopsInHead}
-use Rattle.table_file.specs.Entries.{BeginsWithCount, HasWrongEdge, IsEntryFault}
+use Rattle.table_file.specs.HeldEntries.{BeginsWithCount, HasWrongEdge, IsEntryFault}
 use Rattle.table_file.specs.Reading.{HasCause}
 use Rattle.table_file.proofs.HeadLaws.{not_whole-head}
 use Rattle.table_file.proofs.EntryLaws.{no_entry_cut, entry_begins}
@@ -42,7 +42,8 @@ three a b e few small less =
     let third : n / 256 % 256 ≡ e = omega arith in (
       n,
       few,
-      ap (λ x. x ∷ b ∷ e ∷ []) (sym first) ∙ ap (λ x. n / 16777216 % 256 ∷ x ∷ e ∷ []) (sym second) ∙ ap (λ x. n / 16777216 % 256 ∷ n / 65536 % 256 ∷ x ∷ []) (sym third),
+      ap (λ x. x ∷ b ∷ e ∷ []) (sym first) ∙ ap (λ x. n / 16777216 % 256 ∷ x ∷ e ∷ []) (sym second)
+          ∙ ap (λ x. n / 16777216 % 256 ∷ n / 65536 % 256 ∷ x ∷ []) (sym third),
     )
 
 pub front_cases : (rest : List ℕ) → length rest < 4 → BeginsSome rest ⊎ BeginsNone rest
@@ -73,7 +74,8 @@ front_cases (a ∷ b ∷ f ∷ []) h = elim (cases_lt b 256) [
 front_cases (a ∷ b ∷ f ∷ g ∷ rest) h = absurd (omega arith)
 
 -- where no count of at most 2^28 is whole, it passes, or the bytes end within one
-pub count_fault : (kind : Kind) (d : ℕ) (bytes : List ℕ) (es : List (List (List ℕ))) (place : ℕ) → HasRead kind d bytes es place → length es < label_count kind d
+pub count_fault : (kind : Kind) (d : ℕ) (bytes : List ℕ) (es : List (List (List ℕ))) (place : ℕ) → HasRead kind d bytes es place
+    → length es < label_count kind d
     → ((count : ℕ) → ¬ BeginsWithCount (drop place bytes) count) → CountPasses bytes ⊎ BeginsTable bytes
 unfolding BeginsSome BeginsNone
 count_fault kind d bytes es place r few none =
@@ -131,7 +133,18 @@ wrong_edge_cause kind d bytes es place distance p r few w at =
       split =
           r.split ∙ ap (λ (l : List ℕ). start ++ l) w.split ∙ sym (append_assoc start (count ++ w.before) (w.byte ∷ w.rest))
           ∙ ap (λ (l : List ℕ). l ++ w.byte ∷ w.rest) (sym (append_assoc start count w.before));
-      at = omega (arith, at, w.at, r.inside, length-drop place bytes, ap (λ (l : List ℕ). length l) w.split, length-append (count ++ w.before) (w.byte ∷ w.rest), length-append count w.before);
+      at =
+          omega
+              (
+                arith,
+                at,
+                w.at,
+                r.inside,
+                length-drop place bytes,
+                ap (λ (l : List ℕ). length l) w.split,
+                length-append (count ++ w.before) (w.byte ∷ w.rest),
+                length-append count w.before
+              );
     }
 
 pub entry_cause : (kind : Kind) (d : ℕ) (bytes : List ℕ) (es : List (List (List ℕ))) (place : ℕ) (fault : TableFault) → HasRead kind d bytes es place
@@ -149,20 +162,30 @@ entry_cause kind d bytes es place (Extra p) r few f = absurd f
 entry_cause kind d bytes es place Memory r few f = tt
 
 -- the bytes up to the place
-pub read_front : (kind : Kind) (d : ℕ) (bytes : List ℕ) (es : List (List (List ℕ))) (place : ℕ) → HasRead kind d bytes es place → take place bytes ≡ table_bytes (table_of kind d es)
+pub read_front : (kind : Kind) (d : ℕ) (bytes : List ℕ) (es : List (List (List ℕ))) (place : ℕ) → HasRead kind d bytes es place
+    → take place bytes ≡ table_bytes (table_of kind d es)
 read_front kind d bytes es place r =
     let start = table_bytes (table_of kind d es) in
     ap (λ (l : List ℕ). take place l) r.split
-    ∙ take_at start (drop place bytes) place (omega (arith, r.inside, ap (λ (l : List ℕ). length l) r.split, length-append start (drop place bytes), length-drop place bytes))
+    ∙ take_at start (drop place bytes) place
+        (omega (arith, r.inside, ap (λ (l : List ℕ). length l) r.split, length-append start (drop place bytes), length-drop place bytes))
 
-pub extra_cause : (kind : Kind) (d : ℕ) (bytes : List ℕ) (es : List (List (List ℕ))) (place : ℕ) → HasRead kind d bytes es place → length es ≡ label_count kind d
+pub extra_cause : (kind : Kind) (d : ℕ) (bytes : List ℕ) (es : List (List (List ℕ))) (place : ℕ) → HasRead kind d bytes es place
+    → length es ≡ label_count kind d
     → place < length bytes → HasCause bytes (Extra place)
 extra_cause kind d bytes es place r all more =
     (more, (table_of kind d es, (record { fits = r.fits; whole = all; sound = r.sound }, read_front kind d bytes es place r)))
 
 pub head_short : (bytes : List ℕ) (place : ℕ) → StopsInHead bytes place → place ≡ length bytes → HasCause bytes (Short place)
 head_short bytes place s end =
-    (end, inr (subst BeginsTable (take_all place bytes (omega arith)) (begins_head bytes place (omega (arith, s.inside_head)) s.begun), not_whole-head bytes place s))
+    (
+      end,
+      inr
+          (
+            subst BeginsTable (take_all place bytes (omega arith)) (begins_head bytes place (omega (arith, s.inside_head)) s.begun),
+            not_whole-head bytes place s
+          )
+    )
 
 pub head_magic : (bytes : List ℕ) (place : ℕ) → StopsInHead bytes place → place < length bytes → place < 8 → HasCause bytes (Magic place)
 head_magic bytes place s inside h = (stops_in_head_at bytes place s inside, h)

@@ -2,14 +2,16 @@
 use Rattle.std.specs.Prelude.{◌≡◌, ℕ, ◌+◌, ◌*◌, ◌/◌, ◌%◌, ◌^◌, ◌<◌, ◌≤◌, List, [], ◌∷◌, ◌++◌, map, flat_map, length, slice_index, take, drop, All}
 use Rattle.std.specs.Simd.{first_chunks}
 use Rattle.std.proofs.Common.{get_or, refl, sym, ap, ◌∙◌, subst, arith}
-use Rattle.std.proofs.lemmas.List.{append_assoc, take-append-drop, take-take, take_all, drop-drop, drop_more, get_or-take, get_or_append_left, get_or_at, length-take, length-take-le, length-drop, length-append, length-map, get_or-map}
+use Rattle.std.proofs.lemmas.List.{append_assoc, take-append-drop, take-take, take_all, drop-drop, drop_more, get_or-take, get_or_append_left}
+use Rattle.std.proofs.lemmas.List.{get_or_at, length-take, length-take-le, length-drop, length-append, length-map, get_or-map}
 use Rattle.std.proofs.Math.Nat.{mul-div_cancel}
 use Rattle.iso_model.specs.declared.Kind.{Kind}
 use Rattle.iso_model.specs.Cells.{edge_count}
 use Rattle.iso_model.specs.Tables.{IsEntry, IsTuple}
-use Rattle.iso_model.specs.TableFile.{big_endian, entry_bytes}
-use Rattle.table_file.specs.Entries.{BeginsWithCount, IsEntryAt, HasWrongEdge, IsCutOff}
+use Rattle.iso_formats.specs.TableFile.{big_endian, entry_bytes}
+use Rattle.table_file.specs.HeldEntries.{BeginsWithCount, IsEntryAt, HasWrongEdge, IsCutOff}
 use Rattle.table_file.proofs.Chunks.{IsRow, length-first_chunks, flat_map-first_chunks, rows-first_chunks, length-rows, All-rows}
+use Rattle.iso_formats.proofs.TableLaws.{same_count}
 
 -- ---- what the front of the bytes holds
 
@@ -41,7 +43,8 @@ front_split kind d count front behind edges bytes place f =
     count_split (drop place bytes) count (begins_at kind d count front behind edges bytes place f)
     ∙ ap (λ (l : List ℕ). big_endian 4 count ++ l) (drop-drop 4 place bytes ∙ sym f.behind_is)
 
-pub wrong_edge_at : (kind : Kind) (d count : ℕ) (front behind : List ℕ) (edges : ℕ) (bytes : List ℕ) (place n w : ℕ) → IsFront kind d count front behind edges bytes place
+pub wrong_edge_at : (kind : Kind) (d count : ℕ) (front behind : List ℕ) (edges : ℕ) (bytes : List ℕ) (place n w : ℕ)
+    → IsFront kind d count front behind edges bytes place
     → n ≤ count * d → w < length (take n behind) → All (λ e. e < edges) (take w (take n behind)) → edges ≤ slice_index (take n behind) w
     → HasWrongEdge kind d (drop place bytes) w
 wrong_edge_at kind d count front behind edges bytes place n w f few inside right wrong =
@@ -63,7 +66,8 @@ wrong_edge_at kind d count front behind edges bytes place n w f few inside right
       at = sym (length-take-le w behind (omega arith));
     }
 
-pub cut_off_at : (kind : Kind) (d count : ℕ) (front behind : List ℕ) (edges : ℕ) (bytes : List ℕ) (place n : ℕ) → IsFront kind d count front behind edges bytes place
+pub cut_off_at : (kind : Kind) (d count : ℕ) (front behind : List ℕ) (edges : ℕ) (bytes : List ℕ) (place n : ℕ)
+    → IsFront kind d count front behind edges bytes place
     → length behind < count * d → length behind ≤ n → All (λ e. e < edges) (take n behind) → IsCutOff kind d (drop place bytes)
 cut_off_at kind d count front behind edges bytes place n f short all right = record {
   count = count;
@@ -75,7 +79,8 @@ cut_off_at kind d count front behind edges bytes place n f short all right = rec
 }
 
 -- an entry whose tuples are the bytes behind the count
-pub entry_at : (kind : Kind) (d count : ℕ) (front behind : List ℕ) (edges : ℕ) (bytes : List ℕ) (place n : ℕ) (tuples : List (List ℕ)) → IsFront kind d count front behind edges bytes place
+pub entry_at : (kind : Kind) (d count : ℕ) (front behind : List ℕ) (edges : ℕ) (bytes : List ℕ) (place n : ℕ) (tuples : List (List ℕ))
+    → IsFront kind d count front behind edges bytes place
     → 0 < d → n ≡ count * d → count * d ≤ length behind → All (λ e. e < edges) (take n behind)
     → tuples ≡ first_chunks d (length (take n behind) / d) (take n behind) → IsEntryAt kind d bytes place tuples
 entry_at kind d count front behind edges bytes place n tuples f some size room right is =
@@ -89,34 +94,37 @@ entry_at kind d count front behind edges bytes place n tuples f some size room r
     let sound = subst (λ (m : ℕ). All (λ e. e < m) here) f.edges_is right in
     let rows = rows-first_chunks (edge_count kind d) d count here (omega arith) sound in
     let end : drop n behind ≡ drop (place + 4 + length tuples * d) bytes =
-    ap (λ (l : List ℕ). drop n l) f.behind_is ∙ drop-drop n (place + 4) bytes ∙ ap (λ (m : ℕ). drop (place + 4 + m) bytes) (size ∙ ap (λ (m : ℕ). m * d) (sym many)) in
+    ap (λ (l : List ℕ). drop n l) f.behind_is ∙ drop-drop n (place + 4) bytes
+        ∙ ap (λ (m : ℕ). drop (place + 4 + m) bytes) (size ∙ ap (λ (m : ℕ). m * d) (sym many)) in
     let rest : behind ≡ flat_map (λ (w : List ℕ). w) tuples ++ drop (place + 4 + length tuples * d) bytes =
     sym (take-append-drop n behind) ∙ ap (λ (l : List ℕ). l ++ drop n behind) (sym flat) ∙ ap (λ (l : List ℕ). flat_map (λ (w : List ℕ). w) tuples ++ l) end in
     let whole = count_whole (drop place bytes) count (begins_at kind d count front behind edges bytes place f) in
     record {
       sound = (omega (arith, many, f.begins.0), subst (λ (l : List (List ℕ)). All (IsTuple kind d) l) (sym chunks) rows);
-      inside = rw many (omega (arith, room, ap (λ (l : List ℕ). length l) f.behind_is, length-drop (place + 4) bytes, length-drop place bytes, whole, f.inside));
+      inside =
+          rw many
+              (omega (arith, room, ap (λ (l : List ℕ). length l) f.behind_is, length-drop (place + 4) bytes, length-drop place bytes, whole, f.inside));
       split =
           front_split kind d count front behind edges bytes place f ∙ ap (λ (l : List ℕ). big_endian 4 count ++ l) rest
           ∙ ap (λ (m : ℕ). big_endian 4 m ++ (flat_map (λ (w : List ℕ). w) tuples ++ drop (place + 4 + length tuples * d) bytes)) (sym many);
     }
 
 -- what was read of a list of lists
-pub sound_at : {X : Type 0} (xs : List X) (f : X → List (List ℕ)) (P : List (List ℕ) → Type 0) (i : ℕ) (x : X) → i < length xs → x ≡ get_or xs i x → All P (map f xs) → P (f x)
+pub sound_at : {X : Type 0} (xs : List X) (f : X → List (List ℕ)) (P : List (List ℕ) → Type 0) (i : ℕ) (x : X) → i < length xs → x ≡ get_or xs i x
+    → All P (map f xs) → P (f x)
 sound_at xs f P i x h read s =
     subst P (get_or-map f xs i x [] h ∙ ap f (sym read)) (s i [] (omega (arith, h, length-map xs f)))
 
 -- ---- no entry
 
-same_count : (m n : ℕ) → m ≤ 2 ^ 28 → n ≤ 2 ^ 28 → m / 16777216 % 256 ≡ n / 16777216 % 256 → m / 65536 % 256 ≡ n / 65536 % 256 → m / 256 % 256 ≡ n / 256 % 256 → m % 256 ≡ n % 256 → m ≡ n
-same_count m n a b c d e f = omega arith
-
 pub same_counts : (m n : ℕ) (x y : List ℕ) → m ≤ 2 ^ 28 → n ≤ 2 ^ 28 → big_endian 4 m ++ x ≡ big_endian 4 n ++ y → m ≡ n
 same_counts m n x y a b e =
-    same_count m n a b (ap (λ (l : List ℕ). slice_index l 0) e) (ap (λ (l : List ℕ). slice_index l 1) e) (ap (λ (l : List ℕ). slice_index l 2) e) (ap (λ (l : List ℕ). slice_index l 3) e)
+    same_count m n a b (ap (λ (l : List ℕ). slice_index l 0) e) (ap (λ (l : List ℕ). slice_index l 1) e) (ap (λ (l : List ℕ). slice_index l 2) e)
+        (ap (λ (l : List ℕ). slice_index l 3) e)
 
 -- an entry begins with its count
-pub entry_begins : (kind : Kind) (d : ℕ) (g : List (List ℕ)) (bytes y : List ℕ) → IsEntry kind d g → bytes ≡ entry_bytes g ++ y → BeginsWithCount bytes (length g)
+pub entry_begins : (kind : Kind) (d : ℕ) (g : List (List ℕ)) (bytes y : List ℕ) → IsEntry kind d g → bytes ≡ entry_bytes g ++ y
+    → BeginsWithCount bytes (length g)
 entry_begins kind d g bytes y s e = (s.0, ap (λ (l : List ℕ). take 4 l) e)
 
 -- a member of the bytes of tuples is an edge's number
@@ -129,15 +137,19 @@ edge_in_tuples most d g before rest y byte s room e =
     ∙ get_or_append_left (flat_map (λ (w : List ℕ). w) g) y 0 (length before) inside in
     rw is (All-rows most d g s (length before) 0 inside)
 
-pub no_entry_wrong : (kind : Kind) (d : ℕ) (bytes : List ℕ) (distance : ℕ) → HasWrongEdge kind d bytes distance → (g : List (List ℕ)) (y : List ℕ) → IsEntry kind d g
+pub no_entry_wrong : (kind : Kind) (d : ℕ) (bytes : List ℕ) (distance : ℕ) → HasWrongEdge kind d bytes distance → (g : List (List ℕ)) (y : List ℕ)
+    → IsEntry kind d g
     → bytes ≡ entry_bytes g ++ y → ⊥
 no_entry_wrong kind d bytes distance w g y s e =
     let whole = sym w.split ∙ e in
     let same : w.count ≡ length g = same_counts w.count (length g) (w.before ++ w.byte ∷ w.rest) (flat_map (λ (t : List ℕ). t) g ++ y) w.few s.0 whole in
-    let below = edge_in_tuples (edge_count kind d) d g w.before w.rest y w.byte s.1 (subst (λ (n : ℕ). length w.before < n * d) same w.in_tuple) (ap (λ (l : List ℕ). drop 4 l) whole) in
+    let below =
+        edge_in_tuples (edge_count kind d) d g w.before w.rest y w.byte s.1 (subst (λ (n : ℕ). length w.before < n * d) same w.in_tuple)
+            (ap (λ (l : List ℕ). drop 4 l) whole) in
     omega (arith, below, w.wrong)
 
-pub no_entry_cut : (kind : Kind) (d : ℕ) (bytes : List ℕ) → IsCutOff kind d bytes → (g : List (List ℕ)) (y : List ℕ) → IsEntry kind d g → bytes ≡ entry_bytes g ++ y → ⊥
+pub no_entry_cut : (kind : Kind) (d : ℕ) (bytes : List ℕ) → IsCutOff kind d bytes → (g : List (List ℕ)) (y : List ℕ) → IsEntry kind d g
+    → bytes ≡ entry_bytes g ++ y → ⊥
 no_entry_cut kind d bytes w g y s e =
     let whole = sym w.split ∙ e in
     let same : w.count ≡ length g = same_counts w.count (length g) w.before (flat_map (λ (t : List ℕ). t) g ++ y) w.few s.0 whole in

@@ -2,17 +2,20 @@
 use Rattle.std.specs.Prelude.{◌≡◌, ℕ, ◌+◌, ◌^◌, ◌<◌, ◌≤◌, List, [], ◌∷◌, ◌++◌, flat_map, length, take, drop, All}
 use Rattle.std.proofs.Common.{refl, sym, ap, ◌∙◌, subst, arith, inl, inr}
 use Rattle.std.proofs.lemmas.Bool.{cases_lt}
-use Rattle.std.proofs.lemmas.List.{append_assoc, append-nil, take-append-drop, take-append-le, take-take, take_all, take_at, drop_at, length-take-le, length-drop, length-append}
+use Rattle.std.proofs.lemmas.List.{append_assoc, append-nil, take-append-drop, take-append-le, take-take, take_all, take_at, drop_at, length-take-le}
+use Rattle.std.proofs.lemmas.List.{length-drop, length-append}
 use Rattle.iso_model.specs.declared.Kind.{Kind}
 use Rattle.iso_model.specs.Cells.{HasDimension, label_count}
 use Rattle.iso_model.specs.Tables.{IsEntry}
-use Rattle.iso_model.specs.TableFile.{table_bytes, entry_bytes, big_endian, BeginsTable, IsWholeTable, StopsAt, CountPasses, IsWrongEdge, TableFault, magic_fault, kind_fault, edge_fault, short_fault, extra_fault, HasTableFault, WrongEdgeStops}
-use Rattle.iso_model.proofs.TableLaws.{heads_same, entries_go_on, All_head}
-use Rattle.table_file.specs.Entries.{HasWrongEdge, IsCutOff}
+use Rattle.iso_formats.specs.TableFile.{table_bytes, entry_bytes, big_endian, BeginsTable, IsWholeTable, StopsAt, CountPasses, IsWrongEdge}
+use Rattle.iso_formats.specs.TableFile.{TableFault, magic_fault, kind_fault, edge_fault, short_fault, extra_fault, HasTableFault, WrongEdgeStops}
+use Rattle.iso_formats.proofs.TableLaws.{heads_same, entries_go_on}
+use Rattle.table_file.specs.HeldEntries.{HasWrongEdge, IsCutOff}
 use Rattle.table_file.proofs.HeadLaws.{table_long}
 use Rattle.table_file.proofs.EntryLaws.{no_entry_wrong, no_entry_cut}
 use Rattle.table_file.proofs.Progress.{table_of, HasRead, All-further, goes_on_as, next_entry, not_whole-entry}
 use Rattle.table_file.proofs.Beginnings.{begins_entries, begins_cut, begins_front, begins_earlier, no_longer}
+use Rattle.std.proofs.lemmas.List.Elements.{All-head}
 
 -- ---- a place at which no table goes on
 
@@ -35,7 +38,8 @@ stops_once bytes p q s t = elim (cases_lt p q) [
 whole_below : (bytes : List ℕ) (p q : ℕ) → p < q → q ≤ length bytes → IsWholeTable (take p bytes) → BeginsTable (take q bytes) → ⊥
 whole_below bytes p q h inside w b =
     let more = drop p (take q bytes) in
-    let parts : take p bytes ++ more ≡ take q bytes = ap (λ (l : List ℕ). l ++ more) (sym (take-take p q bytes (omega arith))) ∙ take-append-drop p (take q bytes) in
+    let parts : take p bytes ++ more ≡ take q bytes =
+        ap (λ (l : List ℕ). l ++ more) (sym (take-take p q bytes (omega arith))) ∙ take-append-drop p (take q bytes) in
     let none = no_longer (take p bytes) more w (subst BeginsTable (sym parts) b) in
     omega (arith, ap (λ (l : List ℕ). length l) none, length-drop p (take q bytes), length-take-le q bytes inside)
 
@@ -75,7 +79,8 @@ wrong_longer kind d bytes more distance w = record {
   at = w.at;
 }
 
-not_begins-wrong : (kind : Kind) (d : ℕ) (bytes : List ℕ) (es : List (List (List ℕ))) (place distance : ℕ) → HasRead kind d bytes es place → length es < label_count kind d
+not_begins-wrong : (kind : Kind) (d : ℕ) (bytes : List ℕ) (es : List (List (List ℕ))) (place distance : ℕ) → HasRead kind d bytes es place
+    → length es < label_count kind d
     → HasWrongEdge kind d (drop place bytes) distance → BeginsTable bytes → ⊥
 not_begins-wrong kind d bytes es place distance r few w b =
     let rest = drop place bytes in
@@ -85,26 +90,28 @@ not_begins-wrong kind d bytes es place distance r few w b =
 
 -- ---- a count that passes
 
-begins_count_at : (rest : List ℕ) (n : ℕ) (x : List ℕ) → rest ≡ big_endian 4 n ++ x → take 4 rest ≡ take (length rest) (big_endian 4 n)
+pub begins_count_at : (rest : List ℕ) (n : ℕ) (x : List ℕ) → rest ≡ big_endian 4 n ++ x → take 4 rest ≡ take (length rest) (big_endian 4 n)
 begins_count_at rest n x e =
     ap (λ (l : List ℕ). take 4 l) e ∙ sym (take_all (length rest) (big_endian 4 n) (omega (arith, ap (λ (l : List ℕ). length l) e)))
 
-passes_never : (kind : Kind) (d : ℕ) (rest y : List ℕ) (gs : List (List (List ℕ))) → All (IsEntry kind d) gs → 0 < length gs → rest ≡ flat_map entry_bytes gs ++ y
+passes_never : (kind : Kind) (d : ℕ) (rest y : List ℕ) (gs : List (List (List ℕ))) → All (IsEntry kind d) gs → 0 < length gs
+    → rest ≡ flat_map entry_bytes gs ++ y
     → ((count : ℕ) → count ≤ 2 ^ 28 → ¬ (take 4 rest ≡ take (length rest) (big_endian 4 count))) → ⊥
 passes_never kind d rest y [] s some e never = omega arith
 passes_never kind d rest y (g ∷ gs) s some e never =
     let more = flat_map entry_bytes gs ++ y in
     let flat = flat_map (λ (w : List ℕ). w) g in
-    never (length g) ((All_head (IsEntry kind d) g gs s).0)
+    never (length g) ((All-head (IsEntry kind d) g gs s).0)
     (begins_count_at rest (length g) (flat ++ more)
     (e ∙ append_assoc (entry_bytes g) (flat_map entry_bytes gs) y ∙ append_assoc (big_endian 4 (length g)) flat more))
 
 -- an entry begins what entries are
-entry_first : (kind : Kind) (d : ℕ) (rest y : List ℕ) (gs : List (List (List ℕ))) → All (IsEntry kind d) gs → 0 < length gs → rest ≡ flat_map entry_bytes gs ++ y
+entry_first : (kind : Kind) (d : ℕ) (rest y : List ℕ) (gs : List (List (List ℕ))) → All (IsEntry kind d) gs → 0 < length gs
+    → rest ≡ flat_map entry_bytes gs ++ y
     → ((g : List (List ℕ)) (x : List ℕ) → IsEntry kind d g → rest ≡ entry_bytes g ++ x → ⊥) → ⊥
 entry_first kind d rest y [] s some e never = omega arith
 entry_first kind d rest y (g ∷ gs) s some e never =
-    never g (flat_map entry_bytes gs ++ y) (All_head (IsEntry kind d) g gs s) (e ∙ append_assoc (entry_bytes g) (flat_map entry_bytes gs) y)
+    never g (flat_map entry_bytes gs ++ y) (All-head (IsEntry kind d) g gs s) (e ∙ append_assoc (entry_bytes g) (flat_map entry_bytes gs) y)
 
 -- the entries before a count that passes, seen as entries of another head
 record SameEntries (kind : Kind) (d : ℕ) (es : List (List (List ℕ))) (rest : List ℕ) (bytes : List ℕ) (c : CountPasses bytes) : Type 0 where
@@ -112,7 +119,8 @@ record SameEntries (kind : Kind) (d : ℕ) (es : List (List (List ℕ))) (rest :
   room : length c.entries < label_count kind d
   rests : flat_map entry_bytes c.entries ++ c.rest ≡ flat_map entry_bytes es ++ rest
 
-same_entries : (kind : Kind) (d : ℕ) (es : List (List (List ℕ))) (rest bytes : List ℕ) (c : CountPasses bytes) → bytes ≡ table_bytes (table_of kind d es) ++ rest
+same_entries : (kind : Kind) (d : ℕ) (es : List (List (List ℕ))) (rest bytes : List ℕ) (c : CountPasses bytes)
+    → bytes ≡ table_bytes (table_of kind d es) ++ rest
     → SameEntries kind d es rest bytes c
 same_entries kind d es rest bytes c e =
     let h = heads_same c.kind c.dimension kind d c.entries es c.rest rest (sym c.split ∙ e) in
@@ -187,7 +195,8 @@ reads_wrong bytes place w =
       };
       front = ap (λ (l : List ℕ). take place l) split ∙ take_at front (w.byte ∷ w.rest) place long;
       one_more =
-          ap (λ (l : List ℕ). take (place + 1) l) next ∙ take_at (front ++ w.byte ∷ []) w.rest (place + 1) longer ∙ append_assoc start (count ++ w.before) (w.byte ∷ []);
+          ap (λ (l : List ℕ). take (place + 1) l) next ∙ take_at (front ++ w.byte ∷ []) w.rest (place + 1) longer
+              ∙ append_assoc start (count ++ w.before) (w.byte ∷ []);
       far = omega (arith, long, table_long t, length-append start (count ++ w.before));
       inside = omega (arith, w.at);
     }
@@ -208,7 +217,8 @@ edge_not_whole bytes place w r =
     let cut = cut_front bytes place w in
     let behind = big_endian 4 w.count ++ w.before in
     let at = length (table_bytes (table_of w.kind w.dimension w.entries)) in
-    not_whole-entry w.kind w.dimension (take place bytes) w.entries at (read_at w.kind w.dimension (take place bytes) w.entries behind w.fits w.sound r.front) w.room
+    not_whole-entry w.kind w.dimension (take place bytes) w.entries at
+        (read_at w.kind w.dimension (take place bytes) w.entries behind w.fits w.sound r.front) w.room
     (no_entry_cut w.kind w.dimension (drop at (take place bytes))
     (subst (λ (l : List ℕ). IsCutOff w.kind w.dimension l) (sym (behind_read w.kind w.dimension (take place bytes) w.entries behind r.front)) cut))
 
@@ -229,7 +239,8 @@ edge_stopped bytes place w r =
       split = refl;
       at = refl;
     } in
-    not_begins-wrong w.kind w.dimension front w.entries at (length w.before) (read_at w.kind w.dimension front w.entries behind w.fits w.sound r.one_more) w.room
+    not_begins-wrong w.kind w.dimension front w.entries at (length w.before)
+        (read_at w.kind w.dimension front w.entries behind w.fits w.sound r.one_more) w.room
     (subst (λ (l : List ℕ). HasWrongEdge w.kind w.dimension l (length w.before)) (sym (behind_read w.kind w.dimension front w.entries behind r.one_more)) wrong)
 
 pub wrong_edge_stops : (bytes : List ℕ) (place : ℕ) → WrongEdgeStops bytes place
@@ -251,7 +262,8 @@ passes_head bytes c =
     let t = table_of c.kind c.dimension c.entries in
     let more = drop 16 (table_bytes t) in
     let same : take 16 bytes ++ more ≡ table_bytes t =
-    ap (λ (l : List ℕ). l ++ more) (ap (λ (l : List ℕ). take 16 l) c.split ∙ take-append-le 16 (table_bytes t) c.rest (table_long t)) ∙ take-append-drop 16 (table_bytes t) in
+    ap (λ (l : List ℕ). l ++ more) (ap (λ (l : List ℕ). take 16 l) c.split ∙ take-append-le 16 (table_bytes t) c.rest (table_long t))
+        ∙ take-append-drop 16 (table_bytes t) in
     begins_entries c.kind c.dimension c.entries (take 16 bytes) more c.fits c.sound (omega (arith, c.room)) same
 
 low_short : (bytes : List ℕ) (p q : ℕ) → StopsAt bytes p → p < 16 → HasTableFault bytes (short_fault q) → ⊥
@@ -290,7 +302,9 @@ short_extra bytes p q f g = elim f.1 as (λ _. ⊥) [
 extra_once : (bytes : List ℕ) (p q : ℕ) → HasTableFault bytes (extra_fault p) → HasTableFault bytes (extra_fault q) → p ≡ q
 extra_once bytes p q f g = elim (cases_lt p q) [
   | inl lt ↦ absurd (whole_below bytes p q lt (omega (arith, g.0)) f.1 (whole_begins (take q bytes) g.1))
-  | inr ge ↦ elim (cases_lt q p) [ inl lt ↦ absurd (whole_below bytes q p lt (omega (arith, f.0)) g.1 (whole_begins (take p bytes) f.1)) | inr le ↦ omega arith ]
+  | inr ge ↦
+      elim (cases_lt q p)
+          [ inl lt ↦ absurd (whole_below bytes q p lt (omega (arith, f.0)) g.1 (whole_begins (take p bytes) f.1)) | inr le ↦ omega arith ]
 ]
 
 pub same_fault : (bytes : List ℕ) (f g : TableFault) → HasTableFault bytes f → HasTableFault bytes g → f ≡ g

@@ -7,9 +7,9 @@ use Rattle.iso_model.specs.declared.Kind.{Kind}
 use Rattle.iso_model.specs.declared.Kind.TheVariants.{Cube}
 use Rattle.iso_model.specs.Cells.{HasDimension}
 use Rattle.iso_model.specs.Tables.{Table}
-use Rattle.iso_model.specs.TableFile.{head_bytes, table_bytes, IsWholeTable}
+use Rattle.iso_formats.specs.TableFile.{head_bytes, table_bytes, IsWholeTable}
 use Rattle.table_file.specs.Heads.{rows, IsAgreement, BeginsHead, StopsInHead, HasHead}
-use Rattle.table_file.proofs.Rows.{each_row}
+use Rattle.table_file.proofs.TupleRows.{each_row}
 
 -- at the place the bytes end, or they go on otherwise than this head
 pub StopsRow : List ℕ → ℕ → Kind × ℕ → Type 0
@@ -35,9 +35,11 @@ unfolding StopsRow
 stops_later bytes place later row h s = λ inside e.
     let head = head_bytes 1 row.0 row.1 in
     s (omega arith)
-    (sym (take-take (place + 1) (later + 1) bytes (omega arith)) ∙ ap (λ (l : List ℕ). take (place + 1) l) e ∙ take-take (place + 1) (later + 1) head (omega arith))
+    (sym (take-take (place + 1) (later + 1) bytes (omega arith)) ∙ ap (λ (l : List ℕ). take (place + 1) l) e
+         ∙ take-take (place + 1) (later + 1) head (omega arith))
 
-stops_there : (bytes : List ℕ) (kind : Kind) (d places later : ℕ) → IsAgreement bytes (head_bytes 1 kind d) places → places ≢ 16 → places ≤ later → StopsRow bytes later (kind, d)
+stops_there : (bytes : List ℕ) (kind : Kind) (d places later : ℕ) → IsAgreement bytes (head_bytes 1 kind d) places → places ≢ 16 → places ≤ later
+    → StopsRow bytes later (kind, d)
 unfolding StopsRow
 stops_there bytes kind d places later a ne h =
     stops_later bytes places later (kind, d) h
@@ -45,22 +47,22 @@ stops_there bytes kind d places later a ne h =
     let short : places < 16 = omega (arith, a.inside_head) in
     let head = head_bytes 1 kind d in
     a.ends short inside
-    (sym (get_or-take (places + 1) bytes places 0 (omega arith)) ∙ ap (λ (l : List ℕ). slice_index l places) e ∙ get_or-take (places + 1) head places 0 (omega arith)))
+    (sym (get_or-take (places + 1) bytes places 0 (omega arith)) ∙ ap (λ (l : List ℕ). slice_index l places) e
+        ∙ get_or-take (places + 1) head places 0 (omega arith)))
 
 -- one more row
 pub reached_more : (bytes : List ℕ) (reached index later : ℕ) (row : Kind × ℕ) (places : ℕ) → HasReached bytes reached index → index < 7
     → get_or rows index row ≡ row → IsAgreement bytes (head_bytes 1 row.0 row.1) places → places ≢ 16
     → later < 16 → later ≤ length bytes → BeginsHead bytes later → reached ≤ later → places ≤ later → HasReached bytes later (index + 1)
 reached_more bytes reached index later row places r inside is a ne short long begun after there =
-    let stopped = All-weaker (StopsRow bytes reached) (StopsRow bytes later) (λ row s. stops_later bytes reached later row after s) (take index rows) r.stopped in
+    let stopped =
+        All-weaker (StopsRow bytes reached) (StopsRow bytes later) (λ row s. stops_later bytes reached later row after s) (take index rows) r.stopped in
     let this = subst (λ (row : Kind × ℕ). StopsRow bytes later row) (sym is) (stops_there bytes row.0 row.1 places later a ne there) in
     record { short = short; inside = long; begun = begun; stopped = All-more (StopsRow bytes later) rows index row inside stopped this }
 
-pub agreement_begins : (bytes : List ℕ) (row : Kind × ℕ) (places : ℕ) → HasDimension row.0 row.1 → IsAgreement bytes (head_bytes 1 row.0 row.1) places → BeginsHead bytes places
+pub agreement_begins : (bytes : List ℕ) (row : Kind × ℕ) (places : ℕ) → HasDimension row.0 row.1 → IsAgreement bytes (head_bytes 1 row.0 row.1) places
+    → BeginsHead bytes places
 agreement_begins bytes row places fits a = record { kind = row.0; dimension = row.1; fits = fits; same = a.same }
-
-pub whole_head : (bytes : List ℕ) (row : Kind × ℕ) → HasDimension row.0 row.1 → IsAgreement bytes (head_bytes 1 row.0 row.1) 16 → HasHead bytes row.0 row.1
-whole_head bytes row fits a = record { fits = fits; whole = a.inside; same = a.same }
 
 -- each kind and dimension is one of the seven
 pub record StandsAmong (kind : Kind) (d : ℕ) : Type 0 where
@@ -88,7 +90,8 @@ stops_in_head bytes reached index r all = record {
   begun = r.begun;
   stopped = λ inside b.
       let s = stands_among b.kind b.dimension b.fits in
-      let here : All (StopsRow bytes reached) rows = subst (λ (l : List (Kind × ℕ)). All (StopsRow bytes reached) l) (take_all index rows (omega arith)) r.stopped in
+      let here : All (StopsRow bytes reached) rows =
+          subst (λ (l : List (Kind × ℕ)). All (StopsRow bytes reached) l) (take_all index rows (omega arith)) r.stopped in
       let stops = subst (λ (row : Kind × ℕ). StopsRow bytes reached row) s.is (here s.index (b.kind, b.dimension) s.inside) in
       stops inside b.same;
 }

@@ -1,12 +1,12 @@
-mod Rows
+mod TupleRows
 mod Chunks
 mod EntryLaws
 mod HeadLaws
 mod Progress
 mod RefusalLaws
-mod WritingLaws
+pub mod WritingLaws
 mod CheckLaws
 mod Beginnings
 mod Causes
-mod FaultLaws
+pub mod FaultLaws
 mod SomeFault

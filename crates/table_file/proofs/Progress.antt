@@ -3,14 +3,14 @@ use Rattle.std.specs.Prelude.{◌≡◌, ℕ, ◌+◌, ◌*◌, ◌<◌, ◌≤�
 use Rattle.std.proofs.Common.{refl, sym, ap, ◌∙◌, subst, arith}
 use Rattle.std.proofs.lemmas.List.{append_assoc, append-nil, take-append-drop, drop_all, length-drop, length-append}
 use Rattle.std.proofs.lemmas.List.Concat.{flat_map-append}
-use Rattle.std.proofs.lemmas.List.Elements.{All-nil, All-push}
+use Rattle.std.proofs.lemmas.List.Elements.{All-nil, All-push, All-head, All-tail}
 use Rattle.iso_model.specs.declared.Kind.{Kind}
 use Rattle.iso_model.specs.Cells.{HasDimension, label_count}
 use Rattle.iso_model.specs.Tables.{Table, IsTable, IsEntry}
-use Rattle.iso_model.specs.TableFile.{head_bytes, table_bytes, entry_bytes, SpellsTable, IsWholeTable}
-use Rattle.iso_model.proofs.TableLaws.{table_reads_on, ReadsOn, All_head, All_tail}
+use Rattle.iso_formats.specs.TableFile.{head_bytes, table_bytes, entry_bytes, SpellsTable, IsWholeTable}
+use Rattle.iso_formats.proofs.TableLaws.{table_reads_on, ReadsOn}
 use Rattle.table_file.specs.Heads.{HasHead}
-use Rattle.table_file.specs.Entries.{IsEntryAt}
+use Rattle.table_file.specs.HeldEntries.{IsEntryAt}
 
 abbrev pub table_of : Kind → ℕ → List (List (List ℕ)) → Table
 table_of kind d entries = record { kind = kind; dimension = d; entries = entries }
@@ -30,7 +30,8 @@ pub table_bytes-push : (kind : Kind) (d : ℕ) (es : List (List (List ℕ))) (ws
     → table_bytes (table_of kind d (es ++ ws ∷ [])) ≡ table_bytes (table_of kind d es) ++ entry_bytes ws
 unfolding table_bytes
 table_bytes-push kind d es ws =
-    ap (λ (l : List ℕ). head_bytes 1 kind d ++ l) (flat_map-append entry_bytes es (ws ∷ []) ∙ ap (λ (l : List ℕ). flat_map entry_bytes es ++ l) (append-nil (entry_bytes ws)))
+    ap (λ (l : List ℕ). head_bytes 1 kind d ++ l)
+        (flat_map-append entry_bytes es (ws ∷ []) ∙ ap (λ (l : List ℕ). flat_map entry_bytes es ++ l) (append-nil (entry_bytes ws)))
     ∙ sym (append_assoc (head_bytes 1 kind d) (flat_map entry_bytes es) (entry_bytes ws))
 
 pub read_none : (kind : Kind) (d : ℕ) (bytes : List ℕ) → HasHead bytes kind d → HasRead kind d bytes [] 16
@@ -65,7 +66,7 @@ read_all kind d bytes es place r labels end = (
 pub All-further : (P : List (List ℕ) → Type 0) (es gs fs : List (List (List ℕ))) → fs ≡ es ++ gs → All P fs → All P gs
 All-further P [] gs fs e s = subst (λ (l : List (List (List ℕ))). All P l) e s
 All-further P (g ∷ es) gs [] e s = absurd (cc)
-All-further P (g ∷ es) gs (f ∷ fs) e s = All-further P es gs fs (ap (drop 1) e) (All_tail P f fs s)
+All-further P (g ∷ es) gs (f ∷ fs) e s = All-further P es gs fs (ap (drop 1) e) (All-tail P f fs s)
 
 -- a table that begins with what was read, and what its other entries are
 pub record GoesOnAs (kind : Kind) (d : ℕ) (es : List (List (List ℕ))) (rest more : List ℕ) : Type 0 where
@@ -74,9 +75,12 @@ pub record GoesOnAs (kind : Kind) (d : ℕ) (es : List (List (List ℕ))) (rest 
   pub labels : length es + length further ≡ label_count kind d
   pub on : rest ++ more ≡ flat_map entry_bytes further
 
-pub labels_same : (kind : Kind) (d : ℕ) (es : List (List (List ℕ))) (u : Table) (x y : List ℕ) → IsTable u → ReadsOn kind d es u x y → length u.entries ≡ label_count kind d
+pub labels_same : (kind : Kind) (d : ℕ) (es : List (List (List ℕ))) (u : Table) (x y : List ℕ) → IsTable u → ReadsOn kind d es u x y
+    → length u.entries ≡ label_count kind d
 labels_same kind d es u x y is r =
-    is.whole ∙ subst (λ (k : Kind). label_count k u.dimension ≡ label_count kind d) r.same_kind_of (subst (λ (n : ℕ). label_count kind n ≡ label_count kind d) r.same_dimension refl)
+    is.whole
+        ∙ subst (λ (k : Kind). label_count k u.dimension ≡ label_count kind d) r.same_kind_of
+              (subst (λ (n : ℕ). label_count kind n ≡ label_count kind d) r.same_dimension refl)
 
 pub goes_on_as : (kind : Kind) (d : ℕ) (bytes : List ℕ) (es : List (List (List ℕ))) (place : ℕ) → HasRead kind d bytes es place → length es ≤ label_count kind d
     → (u : Table) (more : List ℕ) → SpellsTable (bytes ++ more) u → GoesOnAs kind d es (drop place bytes) more
@@ -88,24 +92,34 @@ goes_on_as kind d bytes es place r few u more s =
     record {
       further = on.on.further;
       sound = All-further (IsEntry kind d) es on.on.further u.entries on.on.is on.sound;
-      labels = omega (arith, labels_same kind d es u (drop place bytes ++ more) [] s.0 on, ap (λ (l : List (List (List ℕ))). length l) on.on.is, length-append es on.on.further);
+      labels =
+          omega
+              (
+                arith,
+                labels_same kind d es u (drop place bytes ++ more) [] s.0 on,
+                ap (λ (l : List (List (List ℕ))). length l) on.on.is,
+                length-append es on.on.further
+              );
       on = on.on.rest ∙ append-nil (flat_map entry_bytes on.on.further);
     }
 
 -- where more entries are to come, the next one begins the rest
-pub next_entry : (kind : Kind) (d : ℕ) (es : List (List (List ℕ))) (rest more : List ℕ) (gs : List (List (List ℕ))) → All (IsEntry kind d) gs → rest ++ more ≡ flat_map entry_bytes gs
+pub next_entry : (kind : Kind) (d : ℕ) (es : List (List (List ℕ))) (rest more : List ℕ) (gs : List (List (List ℕ))) → All (IsEntry kind d) gs
+    → rest ++ more ≡ flat_map entry_bytes gs
     → 0 < length gs → ((g : List (List ℕ)) (y : List ℕ) → IsEntry kind d g → rest ++ more ≡ entry_bytes g ++ y → ⊥) → ⊥
 next_entry kind d es rest more [] s e some never = omega (arith, some)
-next_entry kind d es rest more (g ∷ gs) s e some never = never g (flat_map entry_bytes gs) (All_head (IsEntry kind d) g gs s) e
+next_entry kind d es rest more (g ∷ gs) s e some never = never g (flat_map entry_bytes gs) (All-head (IsEntry kind d) g gs s) e
 
-pub not_whole-entry : (kind : Kind) (d : ℕ) (bytes : List ℕ) (es : List (List (List ℕ))) (place : ℕ) → HasRead kind d bytes es place → length es < label_count kind d
+pub not_whole-entry : (kind : Kind) (d : ℕ) (bytes : List ℕ) (es : List (List (List ℕ))) (place : ℕ) → HasRead kind d bytes es place
+    → length es < label_count kind d
     → ((g : List (List ℕ)) (y : List ℕ) → IsEntry kind d g → drop place bytes ≡ entry_bytes g ++ y → ⊥) → IsWholeTable bytes → ⊥
 not_whole-entry kind d bytes es place r few never w =
     let none = append-nil (drop place bytes) in
     let on = goes_on_as kind d bytes es place r (omega arith) w.0 [] (w.1.0, append-nil bytes ∙ w.1.1) in
     next_entry kind d es (drop place bytes) [] on.further on.sound on.on (omega (arith, on.labels)) (λ g y s e. never g y s (sym none ∙ e))
 
-pub not_whole-extra : (kind : Kind) (d : ℕ) (bytes : List ℕ) (es : List (List (List ℕ))) (place : ℕ) → HasRead kind d bytes es place → length es ≡ label_count kind d
+pub not_whole-extra : (kind : Kind) (d : ℕ) (bytes : List ℕ) (es : List (List (List ℕ))) (place : ℕ) → HasRead kind d bytes es place
+    → length es ≡ label_count kind d
     → place < length bytes → IsWholeTable bytes → ⊥
 not_whole-extra kind d bytes es place r all more w =
     let on = goes_on_as kind d bytes es place r (omega arith) w.0 [] (w.1.0, append-nil bytes ∙ w.1.1) in

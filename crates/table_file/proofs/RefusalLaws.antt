@@ -3,10 +3,10 @@ use Rattle.std.specs.Prelude.{◌≡◌, ◌<◌, ℕ, List, length, drop}
 use Rattle.std.proofs.Common.{refl, inl, inr}
 use Rattle.iso_model.specs.declared.Kind.{Kind}
 use Rattle.iso_model.specs.Cells.{label_count}
-use Rattle.iso_model.specs.TableFile.{IsWholeTable}
+use Rattle.iso_formats.specs.TableFile.{IsWholeTable}
 use Rattle.table_file.specs.declared.faults.TableFault.{TableFault}
 use Rattle.table_file.specs.declared.faults.TableFault.TheVariants.{Magic, Kind as KindFault, EdgeNumber, Short, Extra, Memory}
-use Rattle.table_file.specs.Entries.{IsEntryFault}
+use Rattle.table_file.specs.HeldEntries.{IsEntryFault}
 use Rattle.table_file.proofs.EntryLaws.{no_entry_wrong, no_entry_cut, entry_begins}
 use Rattle.table_file.proofs.Progress.{HasRead, not_whole-entry}
 

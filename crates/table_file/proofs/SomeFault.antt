@@ -8,11 +8,12 @@ use Rattle.std.proofs.lemmas.List.Elements.{All-nil, All-cons}
 use Rattle.iso_model.specs.declared.Kind.{Kind}
 use Rattle.iso_model.specs.declared.Kind.TheVariants.{Cube, Simplex, Pyramid}
 use Rattle.iso_model.specs.Cells.{HasDimension, edge_count, label_count}
-use Rattle.iso_model.specs.TableFile.{head_bytes, big_endian, IsWholeTable, TableFault, magic_fault, kind_fault, edge_fault, short_fault, extra_fault, HasTableFault, HasOneFault}
+use Rattle.iso_formats.specs.TableFile.{head_bytes, big_endian, IsWholeTable, TableFault, magic_fault, kind_fault, edge_fault, short_fault}
+use Rattle.iso_formats.specs.TableFile.{extra_fault, HasTableFault, HasOneFault}
 use Rattle.table_file.specs.declared.faults.TableFault.TheVariants.{Short}
 use Rattle.table_file.specs.Heads.{rows, BeginsHead, StopsInHead, HasHead}
-use Rattle.table_file.specs.Entries.{BeginsWithCount, IsEntryAt, HasWrongEdge, IsCutOff}
-use Rattle.table_file.proofs.Rows.{small_counts}
+use Rattle.table_file.specs.HeldEntries.{BeginsWithCount, IsEntryAt, HasWrongEdge, IsCutOff}
+use Rattle.table_file.proofs.TupleRows.{small_counts}
 use Rattle.table_file.proofs.HeadLaws.{stands_among}
 use Rattle.table_file.proofs.EntryLaws.{IsFront, count_whole, wrong_edge_at, cut_off_at, entry_at}
 use Rattle.table_file.proofs.Progress.{table_of, HasRead, read_none, read_more, read_all}
@@ -123,7 +124,8 @@ whole_count (a ∷ b ∷ e ∷ f ∷ rest) h = elim (cases_lt b 256) [
       | inl z ↦ elim (cases_lt (a * 16777216 + b * 65536 + e * 256 + f) 268435457) [
         | inl few ↦ inl (a * 16777216 + b * 65536 + e * 256 + f, (omega arith, four a b e f (omega arith) x y z))
         | inr many ↦ inr (λ count s.
-            omega (arith, s.0, many, ap (λ (l : List ℕ). slice_index l 0) s.1, ap (λ (l : List ℕ). slice_index l 1) s.1, ap (λ (l : List ℕ). slice_index l 2) s.1, ap (λ (l : List ℕ). slice_index l 3) s.1))
+            omega (arith, s.0, many, ap (λ (l : List ℕ). slice_index l 0) s.1, ap (λ (l : List ℕ). slice_index l 1) s.1, ap
+                (λ (l : List ℕ). slice_index l 2) s.1, ap (λ (l : List ℕ). slice_index l 3) s.1))
       ]
       | inr great ↦ inr (λ count s. omega (arith, great, ap (λ (l : List ℕ). slice_index l 3) s.1))
     ]
@@ -141,7 +143,8 @@ whole_count (a ∷ b ∷ e ∷ f ∷ rest) h = elim (cases_lt b 256) [
         let third : n / 256 % 256 ≡ e = omega arith in
         let last : n % 256 ≡ f = omega arith in
         ap (λ x. x ∷ b ∷ e ∷ f ∷ []) (sym first) ∙ ap (λ x. n / 16777216 % 256 ∷ x ∷ e ∷ f ∷ []) (sym second)
-        ∙ ap (λ x. n / 16777216 % 256 ∷ n / 65536 % 256 ∷ x ∷ f ∷ []) (sym third) ∙ ap (λ x. n / 16777216 % 256 ∷ n / 65536 % 256 ∷ n / 256 % 256 ∷ x ∷ []) (sym last)
+        ∙ ap (λ x. n / 16777216 % 256 ∷ n / 65536 % 256 ∷ x ∷ f ∷ []) (sym third)
+            ∙ ap (λ x. n / 16777216 % 256 ∷ n / 65536 % 256 ∷ n / 256 % 256 ∷ x ∷ []) (sym last)
 
 -- the first member that is not below a bound
 record FirstOver (most : ℕ) (xs : List ℕ) : Type 0 where
@@ -155,7 +158,15 @@ first_over most [] = inl (All-nil (λ e. e < most))
 first_over most (x ∷ xs) = elim (cases_lt x most) [
   | inl low ↦ elim (first_over most xs) [
     | inl all ↦ inl (All-cons (λ e. e < most) x xs low all)
-    | inr f ↦ inr (record { place = suc f.place; inside = omega (arith, f.inside); before = All-cons (λ e. e < most) x (take f.place xs) low f.before; over = f.over })
+    | inr f ↦
+        inr
+            (record
+                 {
+                   place = suc f.place;
+                   inside = omega (arith, f.inside);
+                   before = All-cons (λ e. e < most) x (take f.place xs) low f.before;
+                   over = f.over
+                 })
   ]
   | inr high ↦ inr (record { place = 0; inside = omega arith; before = All-nil (λ e. e < most); over = high })
 ]
@@ -163,26 +174,31 @@ first_over most (x ∷ xs) = elim (cases_lt x most) [
 Next : Kind → ℕ → List ℕ → ℕ → Type 0
 Next kind d bytes place = ((tuples : List (List ℕ)) × IsEntryAt kind d bytes place tuples) ⊎ HasSomeFault bytes
 
-edge_found : (kind : Kind) (d : ℕ) (bytes : List ℕ) (es : List (List (List ℕ))) (place distance : ℕ) → HasRead kind d bytes es place → length es < label_count kind d
+edge_found : (kind : Kind) (d : ℕ) (bytes : List ℕ) (es : List (List (List ℕ))) (place distance : ℕ) → HasRead kind d bytes es place
+    → length es < label_count kind d
     → HasWrongEdge kind d (drop place bytes) distance → Next kind d bytes place
 unfolding Next HasSomeFault
-edge_found kind d bytes es place distance r few w = inr (edge_fault (place + 4 + distance), wrong_edge_cause kind d bytes es place distance (place + 4 + distance) r few w refl)
+edge_found kind d bytes es place distance r few w =
+    inr (edge_fault (place + 4 + distance), wrong_edge_cause kind d bytes es place distance (place + 4 + distance) r few w refl)
 
 count_missing : (kind : Kind) (d : ℕ) (bytes : List ℕ) (es : List (List (List ℕ))) (place : ℕ) → HasRead kind d bytes es place → length es < label_count kind d
     → ((count : ℕ) → ¬ BeginsWithCount (drop place bytes) count) → Next kind d bytes place
 unfolding Next HasSomeFault
-count_missing kind d bytes es place r few none = inr (short_fault (length bytes), entry_cause kind d bytes es place (Short (length bytes)) r few (refl, inl none))
+count_missing kind d bytes es place r few none =
+    inr (short_fault (length bytes), entry_cause kind d bytes es place (Short (length bytes)) r few (refl, inl none))
 
 tuples_missing : (kind : Kind) (d : ℕ) (bytes : List ℕ) (es : List (List (List ℕ))) (place : ℕ) → HasRead kind d bytes es place → length es < label_count kind d
     → IsCutOff kind d (drop place bytes) → Next kind d bytes place
 unfolding Next HasSomeFault
-tuples_missing kind d bytes es place r few cut = inr (short_fault (length bytes), entry_cause kind d bytes es place (Short (length bytes)) r few (refl, inr cut))
+tuples_missing kind d bytes es place r few cut =
+    inr (short_fault (length bytes), entry_cause kind d bytes es place (Short (length bytes)) r few (refl, inr cut))
 
 entry_stands : (kind : Kind) (d : ℕ) (bytes : List ℕ) (place : ℕ) (tuples : List (List ℕ)) → IsEntryAt kind d bytes place tuples → Next kind d bytes place
 unfolding Next
 entry_stands kind d bytes place tuples e = inl (tuples, e)
 
-behind_count : (kind : Kind) (d : ℕ) (bytes : List ℕ) (es : List (List (List ℕ))) (place count : ℕ) → HasRead kind d bytes es place → length es < label_count kind d
+behind_count : (kind : Kind) (d : ℕ) (bytes : List ℕ) (es : List (List (List ℕ))) (place count : ℕ) → HasRead kind d bytes es place
+    → length es < label_count kind d
     → BeginsWithCount (drop place bytes) count → Next kind d bytes place
 behind_count kind d bytes es place count r few b =
     let front = drop place bytes in
@@ -199,13 +215,16 @@ behind_count kind d bytes es place count r few b =
         | inl all ↦
             let here = take (count * d) behind in
             let tuples = first_chunks d (length here / d) here in
-            entry_stands kind d bytes place tuples (entry_at kind d count front behind most bytes place (count * d) tuples f (omega (arith, (small_counts kind d r.fits).some)) refl long all refl)
+            entry_stands kind d bytes place tuples
+                (entry_at kind d count front behind most bytes place (count * d) tuples f (omega (arith, (small_counts kind d r.fits).some)) refl long
+                     all refl)
         | inr w ↦ edge_found kind d bytes es place w.place r few
             (wrong_edge_at kind d count front behind most bytes place (count * d) w.place f (omega arith) w.inside w.before w.over)
       ]
     ]
 
-next_cases : (kind : Kind) (d : ℕ) (bytes : List ℕ) (es : List (List (List ℕ))) (place : ℕ) → HasRead kind d bytes es place → length es < label_count kind d → Next kind d bytes place
+next_cases : (kind : Kind) (d : ℕ) (bytes : List ℕ) (es : List (List (List ℕ))) (place : ℕ) → HasRead kind d bytes es place
+    → length es < label_count kind d → Next kind d bytes place
 next_cases kind d bytes es place r few =
     let rest = drop place bytes in
     elim (cases_lt (length rest) 4) [
@@ -218,7 +237,8 @@ next_cases kind d bytes es place r few =
 
 -- ---- the rest
 
-rest_cases : (n : ℕ) (kind : Kind) (d : ℕ) (bytes : List ℕ) (es : List (List (List ℕ))) (place : ℕ) → HasRead kind d bytes es place → length es + n ≡ label_count kind d
+rest_cases : (n : ℕ) (kind : Kind) (d : ℕ) (bytes : List ℕ) (es : List (List (List ℕ))) (place : ℕ) → HasRead kind d bytes es place
+    → length es + n ≡ label_count kind d
     → IsWholeTable bytes ⊎ HasSomeFault bytes
 unfolding Next HasSomeFault
 rest_cases zero kind d bytes es place r left = elim (cases_lt place (length bytes)) [
@@ -226,7 +246,9 @@ rest_cases zero kind d bytes es place r left = elim (cases_lt place (length byte
   | inr end ↦ inl (table_of kind d es, read_all kind d bytes es place r (omega arith) end)
 ]
 rest_cases (suc n) kind d bytes es place r left = elim (next_cases kind d bytes es place r (omega arith)) [
-  | inl e ↦ rest_cases n kind d bytes (es ++ e.0 ∷ []) (place + 4 + length e.0 * d) (read_more kind d bytes es place e.0 r e.1) (omega (arith, left, length_push es e.0))
+  | inl e ↦
+      rest_cases n kind d bytes (es ++ e.0 ∷ []) (place + 4 + length e.0 * d) (read_more kind d bytes es place e.0 r e.1)
+          (omega (arith, left, length_push es e.0))
   | inr fault ↦ inr fault
 ]
 

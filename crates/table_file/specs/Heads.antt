@@ -3,7 +3,7 @@ use Rattle.std.specs.Prelude.{◌≡◌, ◌≢◌, ℕ, ◌+◌, ◌<◌, ◌�
 use Rattle.iso_model.specs.declared.Kind.{Kind}
 use Rattle.iso_model.specs.declared.Kind.TheVariants.{Cube, Simplex, Pyramid}
 use Rattle.iso_model.specs.Cells.{HasDimension}
-use Rattle.iso_model.specs.TableFile.{head_bytes}
+use Rattle.iso_formats.specs.TableFile.{head_bytes}
 
 -- the seven kinds and dimensions of tables
 abbrev pub rows : List (Kind × ℕ)

@@ -1,3 +1,3 @@
 pub mod Heads
-pub mod Entries
+pub mod HeldEntries
 pub mod Reading

@@ -1,7 +1,7 @@
 -- What was read, and why nothing was.
 use Rattle.std.specs.Prelude.{◌≡◌, ⊤, ℕ, List}
 use Rattle.iso_model.specs.Tables.{Table}
-use Rattle.iso_model.specs.TableFile.{HasTableFault, magic_fault, kind_fault, edge_fault, short_fault, extra_fault}
+use Rattle.iso_formats.specs.TableFile.{HasTableFault, magic_fault, kind_fault, edge_fault, short_fault, extra_fault}
 use Rattle.table_file.specs.declared.faults.TableFault.{TableFault}
 use Rattle.table_file.specs.declared.faults.TableFault.TheVariants.{Magic, Kind, EdgeNumber, Short, Extra, Memory}
 use Rattle.table_file.specs.declared.tables.AnyTable.{AnyTable}

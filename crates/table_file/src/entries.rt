@@ -2,7 +2,7 @@
 
 ghost use Rattle.std.specs.Prelude.{◌≡◌, ℕ, ◌+◌, ◌*◌, ◌^◌, ◌<◌, ◌≤◌, length, take, slice_index, All, IfSome, IfNone, IfOk, IfErr};
 ghost use Rattle.iso_model.specs.Cells.{HasDimension, edge_count};
-ghost use Rattle.table_file.specs.Entries.{BeginsWithCount, IsEntryAt, IsEntryFault};
+ghost use Rattle.table_file.specs.HeldEntries.{BeginsWithCount, IsEntryAt, IsEntryFault};
 
 use crate::faults::TableFault;
 use crate::heads::edges;

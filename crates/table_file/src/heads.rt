@@ -2,7 +2,7 @@
 
 ghost use Rattle.std.specs.Prelude.{◌≡◌, ℕ, ◌+◌, ◌<◌, ◌≤◌, length, take, slice_index, slice_index_or, IfOk, IfErr};
 ghost use Rattle.iso_model.specs.Cells.{HasDimension, corner_count, edge_count, label_count};
-ghost use Rattle.iso_model.specs.TableFile.{head_bytes, kind_byte};
+ghost use Rattle.iso_formats.specs.TableFile.{head_bytes, kind_byte};
 ghost use Rattle.table_file.specs.Heads.{IsAgreement, HasHead, StopsInHead, rows};
 
 use iso_model::Kind;

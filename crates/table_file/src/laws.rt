@@ -1,7 +1,7 @@
 //! Laws of the faults of bytes that are no table. The functions do nothing when they run.
 
 ghost use Rattle.std.specs.Prelude.{ℕ, List};
-ghost use Rattle.iso_model.specs.TableFile.{WrongEdgeStops, HasOneFault};
+ghost use Rattle.iso_formats.specs.TableFile.{WrongEdgeStops, HasOneFault};
 
 /// A byte of a tuple that is no edge's number is the first at which no table goes on, and no whole table and no count
 /// past 2^28 stands before it.

@@ -2,7 +2,7 @@
 
 ghost use Rattle.std.specs.Prelude.{◌≡◌, ◌≤◌, length, IfOk, IfErr, IsOkUnless};
 ghost use Rattle.iso_model.specs.Tables.{Table as TableValue};
-ghost use Rattle.iso_model.specs.TableFile.{SpellsTable, IsWholeTable, table_limit};
+ghost use Rattle.iso_formats.specs.TableFile.{SpellsTable, IsWholeTable, table_limit};
 ghost use Rattle.table_file.specs.Heads.{HasHead, StopsInHead};
 ghost use Rattle.table_file.specs.Reading.{table_in, HasOwnDimension, HasCause};
 

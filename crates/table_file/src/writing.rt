@@ -1,7 +1,7 @@
 //! Writing the bytes of a table.
 
 ghost use Rattle.std.specs.Prelude.{◌≡◌, ◌++◌, length, IfOk, OnOk};
-ghost use Rattle.iso_model.specs.TableFile.{table_bytes};
+ghost use Rattle.iso_formats.specs.TableFile.{table_bytes};
 
 use crate::heads::head;
 use crate::tables::Table;

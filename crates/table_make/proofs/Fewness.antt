@@ -3,12 +3,13 @@ use Rattle.std.specs.Prelude.{◌≡◌, ◌+◌, ◌*◌, ◌^◌, ◌<◌, ◌
 use Rattle.std.specs.List.{AllAdjacentBelow}
 use Rattle.std.proofs.Common.{sym, ap, ◌∙◌, subst, arith, inl, inr}
 use Rattle.std.proofs.Math.Nat.{mul-le-mul}
-use Rattle.std.proofs.lemmas.Bool.{false≢true}
+use Rattle.std.proofs.lemmas.Bool.{false≢true, or_cases, and_parts}
 use Rattle.std.proofs.lemmas.List.Elements.{All-head, All-tail}
-use Rattle.iso_model.specs.Orders.{comes_before}
-use Rattle.iso_model.proofs.Deciding.{either, both, lt_of, equal_of}
-use Rattle.iso_model.proofs.FaceLaws.{Contains-head, Contains-tail}
-use Rattle.iso_model.proofs.FixedLists.{AscendsBy, steps_ascend_by, tuples_strict}
+use Rattle.lists.specs.Orders.{comes_before}
+use Rattle.lists.specs.Members.{AscendsBy}
+use Rattle.lists.proofs.Tests.{lt_of, equal_of}
+use Rattle.lists.proofs.Contained.{Contains-head, Contains-tail}
+use Rattle.lists.proofs.Orderings.{steps_ascend_by, tuples_strict}
 
 -- the number whose digits they are, in base 32
 abbrev number_of : List ℕ → ℕ
@@ -40,11 +41,11 @@ number_less [] w l d e b = absurd (false≢true b)
 number_less (x ∷ v) [] l d e b = absurd (omega arith)
 number_less (x ∷ v) (y ∷ w) l d e b =
     let same : length v ≡ length w = omega arith in
-    elim (either (nat_lt x y) (x == y && comes_before v w) b) as (λ _. x * 32 ^ length v + number_of v < y * 32 ^ length w + number_of w) [
+    elim (or_cases (nat_lt x y) (x == y && comes_before v w) b) as (λ _. x * 32 ^ length v + number_of v < y * 32 ^ length w + number_of w) [
       | inl less ↦ subst (λ (n : ℕ). x * 32 ^ length v + number_of v < y * 32 ^ n + number_of w) same
           (greater_digit x y (length v) (number_of v) (number_of w) (lt_of x y less) (number_below v (All-tail (λ z. z < 32) x v d)))
       | inr behind ↦
-          let parts = both (x == y) (comes_before v w) behind in
+          let parts = and_parts (x == y) (comes_before v w) behind in
           let first : x ≡ y = equal_of x y parts.0 in
           let rest = number_less v w same (All-tail (λ z. z < 32) x v d) (All-tail (λ z. z < 32) y w e) parts.1 in
           let heads : x * 32 ^ length v ≡ y * 32 ^ length w = ap (λ (z : ℕ). z * 32 ^ length v) first ∙ ap (λ (n : ℕ). y * 32 ^ n) same in
@@ -69,7 +70,8 @@ few_from d (w ∷ ws) k digits a low h =
     omega (arith, more, least)) (omega (arith, least, below)) in
     omega (arith, rest)
 
-pub few_tuples : (d : ℕ) (ws : List (List ℕ)) → ((w : List ℕ) → Contains ws w → IsDigits d w) → AllAdjacentBelow (λ v w. IsTrue (comes_before v w)) ws (length ws) → length ws ≤ 32 ^ d
+pub few_tuples : (d : ℕ) (ws : List (List ℕ)) → ((w : List ℕ) → Contains ws w → IsDigits d w)
+    → AllAdjacentBelow (λ v w. IsTrue (comes_before v w)) ws (length ws) → length ws ≤ 32 ^ d
 few_tuples d ws digits a =
     let h = few_from d ws 0 digits (steps_ascend_by (λ (v w : List ℕ). IsTrue (comes_before v w)) tuples_strict ws a) (λ w c. omega arith) (omega arith) in
     omega (arith, h)

@@ -1,7 +1,8 @@
 //! The entries of all labellings.
 
-ghost use Rattle.std.specs.Prelude.{◌≡◌, ◌⊎◌, ◌^◌, ◌++◌, ◌∷◌, [], IfOk, OnOk, map};
+ghost use Rattle.std.specs.Prelude.{◌≡◌, ◌^◌, ◌++◌, ◌∷◌, [], IfOk, OnOk, map};
 ghost use Rattle.table_make.specs.HullEntries.{AreHullEntries};
+ghost use Rattle.iso_model.specs.Dimensions.{IsDimension};
 
 use case_patch::patch;
 use cell_lattice::Cell;
@@ -19,7 +20,7 @@ fn add_entry<const D: usize>(
     entries: &mut Vec<Vec<[u8; D]>>,
     entry: Vec<[u8; D]>,
 ) -> Result<(), Memory>
-    requires { (D ≡ 2) ⊎ ((D ≡ 3) ⊎ (D ≡ 4)) }
+    requires { IsDimension D }
     ensures { OnOk result (map (λ e. e.items) entries.new.items ≡ map (λ e. e.items) entries.old.items ++ entry.entry.items ∷ []) }
 {
     match entries.push(entry) {

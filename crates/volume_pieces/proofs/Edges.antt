@@ -1,13 +1,13 @@
 -- The edges of kept cells: each has its own number in its cell, and each bipolar one its own place in the list of all.
 use Rattle.std.proofs.Common.{◌≡◌, ℕ, zero, suc, ◌+◌, ◌*◌, ◌<◌, Bool, true, false, not, cond, List, [], ◌∷◌, length, refl, ap, sym, ◌∙◌, subst, arith, inl, inr}
-use Rattle.std.specs.Prelude.{◌⊎◌, ◌↔◌, nat_eq, nat_lt, slice_index, slice_index_or, filter, Contains}
+use Rattle.std.specs.Prelude.{◌⊎◌, ◌↔◌, nat_lt, slice_index, slice_index_or, Contains}
 use Rattle.std.specs.List.{position_or_len}
 use Rattle.std.proofs.lemmas.Bool.Decides.{nat_tests}
 use Rattle.std.proofs.lemmas.List.Sums.{passes_at_first}
 use Rattle.std.proofs.lemmas.List.FromFn.{get_or-map-range_with_len, length-map-range_with_len}
 use Rattle.std.proofs.lemmas.Slice.Eq.{bytes_eq-Decides}
 use Rattle.iso_model.specs.declared.Kind.{Kind}
-use Rattle.iso_model.specs.Orders.{numbers, same_list}
+use Rattle.lists.specs.Orders.{numbers, same_list}
 use Rattle.iso_model.specs.Cells.{HasDimension, corner_count, edge_count, edge_ends}
 use Rattle.iso_model.specs.Splits.{Edge, edge, corner, corner_offset, rank_of, cube_of, cell_count, midpoint}
 use Rattle.iso_model.specs.Neighbours.{HasEdge}
@@ -15,16 +15,10 @@ use Rattle.iso_model.specs.Values.{Volume, IsRegularVolume, is_kept, cells}
 use Rattle.iso_model.specs.Bipolar.{is_bipolar, cell_edges, kept_edges, bipolar_edges, bipolar_edge, AreBipolarEdges, same_edge, place_in}
 use Rattle.iso_model.specs.Tables.{Table}
 use Rattle.iso_model.proofs.BipolarLaws.{bipolar_edges-are}
-use Rattle.iso_model.proofs.Deciding.{Contains-at, contained_below}
 use Rattle.iso_model.proofs.DimensionLaws.{dimension_cases}
-use Rattle.iso_model.proofs.FixedLists.{AscendsBy, steps_ascend_by}
 use Rattle.iso_model.proofs.OrderLaws.{Earlier, keys_strict, comes_first-irreflexive}
-use Rattle.cell_lattice.specs.Dimensions.{IsDimension}
+use Rattle.iso_model.specs.Dimensions.{IsDimension}
 use Rattle.cell_lattice.specs.CellLemmas.{ordered_ends, own_edges}
-use Rattle.mesh_laws.proofs.Sorting.{Distinct}
-use Rattle.mesh_laws.proofs.Members.{In, In_from, Contains_from, In-map, In-flat_map, count_none}
-use Rattle.split_laws.proofs.Members as Split
-use Rattle.split_laws.proofs.Members.{and_left, and_right, both}
 use Rattle.split_laws.proofs.Coordinates.{lists_same}
 use Rattle.split_laws.proofs.Offsets.{OffsetsFit}
 use Rattle.split_laws.proofs.Placement.{below, coordinate_of, long_offset}
@@ -33,25 +27,22 @@ use Rattle.split_laws.proofs.Passed.{fits, ends_are_corners}
 use Rattle.split_laws.proofs.SplitTheorems.{own_midpoints}
 use Rattle.glue_laws.proofs.Pieces.{Has}
 use Rattle.volume_pieces.proofs.PiecesOf.{pieces_of}
+use Rattle.lists.specs.Members.{In, Distinct, AscendsBy}
+use Rattle.lists.proofs.Contained.{Contains-at, Contains-filtered, Contains-passes}
+use Rattle.lists.proofs.MemberLaws.{In_from_place, Contains_from, In-map, In-flat_map, In-numbers}
+use Rattle.lists.proofs.Orderings.{steps_ascend_by}
+use Rattle.lists.proofs.Tests.{and_left, and_right}
+use Rattle.std.proofs.lemmas.Bool.{and_from}
+use Rattle.lists.proofs.DistinctLists.{Distinct-filter, Distinct-range}
+use Rattle.iso_model.proofs.SignLaws.{edge_itself}
 
 -- ---- kept cells
-
-counted : (xs : List ℕ) → Split.Distinct xs → Distinct xs
-counted [] d = tt
-counted (x ∷ xs) d = (
-  count_none (nat_eq x) xs (λ y i same. d.0 (subst (λ (z : ℕ). Split.In z xs) (equal x y same) (Split.In_from xs y (Contains_from xs y i)))),
-  counted xs d.1,
-)
-  where
-    equal : (a b : ℕ) → nat_eq a b ≡ true → b ≡ a
-    equal a b e = grind (arith, nat_tests)
 
 -- no cell is listed twice
 pub cells_distinct : (v : Volume) → Distinct (cells v)
 unfolding cells
 cells_distinct v =
-    counted (filter (is_kept v) (numbers (cell_count v.kind v.sizes)))
-    (Split.Distinct-filter (is_kept v) (numbers (cell_count v.kind v.sizes)) (Split.Distinct-range 0 (cell_count v.kind v.sizes)))
+    Distinct-filter (is_kept v) (numbers (cell_count v.kind v.sizes)) (Distinct-range 0 (cell_count v.kind v.sizes))
 
 -- ---- the corners and the edges of one cell
 
@@ -66,7 +57,8 @@ module _ (kind : Kind) (sizes : List ℕ) (has : HasDimension kind (length sizes
   fit = fits kind (length sizes) is has
 
   -- different corners of a cell are different points
-  pub own_corner : (c j k : ℕ) → j < corner_count kind (length sizes) → k < corner_count kind (length sizes) → corner kind sizes c j ≡ corner kind sizes c k → j ≡ k
+  pub own_corner : (c j k : ℕ) → j < corner_count kind (length sizes) → k < corner_count kind (length sizes)
+      → corner kind sizes c j ≡ corner kind sizes c k → j ≡ k
   own_corner c j k hj hk same =
       fit.own (rank_of kind sizes c) (below kind sizes fit c) j k hj hk
       (lists_same (corner_offset kind (length sizes) (rank_of kind sizes c) j) (corner_offset kind (length sizes) (rank_of kind sizes c) k)
@@ -74,7 +66,9 @@ module _ (kind : Kind) (sizes : List ℕ) (has : HasDimension kind (length sizes
       (λ i h.
       let in_axes : i < length sizes = omega (arith, h, long_offset kind sizes fit c j hj) in
       let equal : slice_index (corner kind sizes c j) i ≡ slice_index (corner kind sizes c k) i = ap (λ (p : List ℕ). slice_index p i) same in
-      offsets_equal (slice_index (cube_of kind sizes c) i) (slice_index (corner_offset kind (length sizes) (rank_of kind sizes c) j) i) (slice_index (corner_offset kind (length sizes) (rank_of kind sizes c) k) i) (slice_index (corner kind sizes c j) i) (slice_index (corner kind sizes c k) i)
+      offsets_equal (slice_index (cube_of kind sizes c) i) (slice_index (corner_offset kind (length sizes) (rank_of kind sizes c) j) i)
+      (slice_index (corner_offset kind (length sizes) (rank_of kind sizes c) k) i) (slice_index (corner kind sizes c j) i)
+      (slice_index (corner kind sizes c k) i)
       (coordinate_of kind sizes fit c j i in_axes) (coordinate_of kind sizes fit c k i in_axes) equal))
     where
       offsets_equal : (x o p a b : ℕ) → a ≡ 2 * x + o → b ≡ 2 * x + p → a ≡ b → o ≡ p
@@ -85,7 +79,8 @@ module _ (kind : Kind) (sizes : List ℕ) (has : HasDimension kind (length sizes
 
   -- two corners of a cell are these ends
   abbrev AreEnds : ℕ → ℕ × ℕ → List ℕ → List ℕ → Type 0
-  AreEnds c p low high = ((corner kind sizes c p.0 ≡ low) × (corner kind sizes c p.1 ≡ high)) ⊎ ((corner kind sizes c p.1 ≡ low) × (corner kind sizes c p.0 ≡ high))
+  AreEnds c p low high =
+      ((corner kind sizes c p.0 ≡ low) × (corner kind sizes c p.1 ≡ high)) ⊎ ((corner kind sizes c p.1 ≡ low) × (corner kind sizes c p.0 ≡ high))
 
   -- different edges of a cell are different edges of the grid
   pub own_edge : (c a b : ℕ) → a < edge_count kind (length sizes) → b < edge_count kind (length sizes) → edge kind sizes c a ≡ edge kind sizes c b → a ≡ b
@@ -93,10 +88,13 @@ module _ (kind : Kind) (sizes : List ℕ) (has : HasDimension kind (length sizes
       let x = edge kind sizes c a in
       let first = ends_of_edge kind sizes (ends_are_corners kind (length sizes) is has) c a x refl in
       let second = ends_of_edge kind sizes (ends_are_corners kind (length sizes) is has) c b x (sym same) in
-      let ends = cases (edge_ends kind (length sizes) a) (edge_ends kind (length sizes) b) x.low x.high (ordered_ends kind (length sizes) is has a ha) (ordered_ends kind (length sizes) is has b hb) first second in
+      let ends =
+      cases (edge_ends kind (length sizes) a) (edge_ends kind (length sizes) b) x.low x.high (ordered_ends kind (length sizes) is has a ha)
+      (ordered_ends kind (length sizes) is has b hb) first second in
       own_edges kind (length sizes) is has a b ha hb (pairs (edge_ends kind (length sizes) a) (edge_ends kind (length sizes) b) ends.0 ends.1)
     where
-      one : (j k : ℕ) (point : List ℕ) → j < corner_count kind (length sizes) → k < corner_count kind (length sizes) → corner kind sizes c j ≡ point → corner kind sizes c k ≡ point → j ≡ k
+      one : (j k : ℕ) (point : List ℕ) → j < corner_count kind (length sizes) → k < corner_count kind (length sizes) → corner kind sizes c j ≡ point
+          → corner kind sizes c k ≡ point → j ≡ k
       one j k point hj hk e f = own_corner c j k hj hk (e ∙ sym f)
 
       first_below : (p : ℕ × ℕ) → Ordered p → p.0 < corner_count kind (length sizes)
@@ -104,8 +102,10 @@ module _ (kind : Kind) (sizes : List ℕ) (has : HasDimension kind (length sizes
 
       cases : (p q : ℕ × ℕ) (low high : List ℕ) → Ordered p → Ordered q → AreEnds c p low high → AreEnds c q low high → (p.0 ≡ q.0) × (p.1 ≡ q.1)
       cases p q low high op oq (inl s) (inl t) = (one p.0 q.0 low (first_below p op) (first_below q oq) s.0 t.0, one p.1 q.1 high op.1 oq.1 s.1 t.1)
-      cases p q low high op oq (inl s) (inr t) = absurd (omega (arith, op.0, oq.0, one p.0 q.1 low (first_below p op) oq.1 s.0 t.0, one p.1 q.0 high op.1 (first_below q oq) s.1 t.1))
-      cases p q low high op oq (inr s) (inl t) = absurd (omega (arith, op.0, oq.0, one p.1 q.0 low op.1 (first_below q oq) s.0 t.0, one p.0 q.1 high (first_below p op) oq.1 s.1 t.1))
+      cases p q low high op oq (inl s) (inr t) =
+          absurd (omega (arith, op.0, oq.0, one p.0 q.1 low (first_below p op) oq.1 s.0 t.0, one p.1 q.0 high op.1 (first_below q oq) s.1 t.1))
+      cases p q low high op oq (inr s) (inl t) =
+          absurd (omega (arith, op.0, oq.0, one p.1 q.0 low op.1 (first_below q oq) s.0 t.0, one p.0 q.1 high (first_below p op) oq.1 s.1 t.1))
       cases p q low high op oq (inr s) (inr t) = (one p.0 q.0 high (first_below p op) (first_below q oq) s.1 t.1, one p.1 q.1 low op.1 oq.1 s.0 t.0)
 
 -- ---- places in lists of edges
@@ -116,10 +116,6 @@ same_edge_is d e h =
     let low : d.low ≡ e.low = (bytes_eq-Decides d.low e.low).0 (and_left (same_list d.low e.low) (same_list d.high e.high) h) in
     let high : d.high ≡ e.high = (bytes_eq-Decides d.high e.high).0 (and_right (same_list d.low e.low) (same_list d.high e.high) h) in
     λ i. record { low = low i; high = high i }
-
--- an edge has its own ends
-pub edge_itself : (e : Edge) → same_edge e e ≡ true
-edge_itself e = both (same_list e.low e.low) (same_list e.high e.high) ((bytes_eq-Decides e.low e.low).1 refl) ((bytes_eq-Decides e.high e.high).1 refl)
 
 -- an edge of a list has a place in it
 pub place_below : (es : List Edge) (e : Edge) → In e es → place_in es e < length es
@@ -142,7 +138,11 @@ place_at (x ∷ es) up zero d h = rw (edge_itself x) refl
 place_at (x ∷ es) up (suc k) d h =
     let inside : k < length es = omega (arith, h) in
     let e : Edge = slice_index_or es k d in
-    step (same_edge e x) (position_or_len (same_edge e) es) (λ s. comes_first-irreflexive (midpoint x) (subst (λ (y : Edge). Earlier midpoint x y) (same_edge_is e x s) (up.0 e (Contains-at es k d inside)))) (place_at es up.1 k d inside)
+    step (same_edge e x) (position_or_len (same_edge e) es)
+    (λ s.
+    comes_first-irreflexive (midpoint x)
+    (subst (λ (y : Edge). Earlier midpoint x y) (same_edge_is e x s) (up.0 e (Contains-at es k d inside))))
+    (place_at es up.1 k d inside)
   where
     step : (b : Bool) (m : ℕ) → (b ≡ true → ⊥) → m ≡ k → cond (not b) (1 + m) 0 ≡ suc k
     step true m apart s = absurd (apart refl)
@@ -157,34 +157,31 @@ module _ (v : Volume) (regular : IsRegularVolume v) where
   list_is : AreBipolarEdges v (bipolar_edges v)
   list_is = bipolar_edges-are v (own_midpoints v.kind v.sizes dimension regular.fits)
 
-  in_numbers : (n k : ℕ) → k < n → In k (numbers n)
-  in_numbers n k h = let c = contained_below n k h in In_from (numbers n) k c.0 c.1 c.2
-
   -- an edge of a cell is in the list of its edges
   pub in_cell : (c e : ℕ) → e < edge_count v.kind (length v.sizes) → In (edge v.kind v.sizes c e) (cell_edges v c)
-  in_cell c e h = In-map (edge v.kind v.sizes c) (numbers (edge_count v.kind (length v.sizes))) e (in_numbers (edge_count v.kind (length v.sizes)) e h)
-
-  filtered : (xs : List Edge) (x : Edge) → is_bipolar v x ≡ true → Contains xs x → Contains (filter (is_bipolar v) xs) x
-  filtered xs x h c = Split.Contains_from (filter (is_bipolar v) xs) x (Split.In-filter (is_bipolar v) xs x (Split.In_from xs x c) h)
+  in_cell c e h = In-map (edge v.kind v.sizes c) (numbers (edge_count v.kind (length v.sizes))) e (In-numbers (edge_count v.kind (length v.sizes)) e h)
 
   -- a bipolar edge of a kept cell is in the list of all
-  pub listed : (c e : ℕ) → In c (cells v) → e < edge_count v.kind (length v.sizes) → is_bipolar v (edge v.kind v.sizes c e) ≡ true → In (edge v.kind v.sizes c e) (bipolar_edges v)
+  pub listed : (c e : ℕ) → In c (cells v) → e < edge_count v.kind (length v.sizes) → is_bipolar v (edge v.kind v.sizes c e) ≡ true
+      → In (edge v.kind v.sizes c e) (bipolar_edges v)
   listed c e i h b =
       let x : Edge = edge v.kind v.sizes c e in
       let kept : Contains (kept_edges v) x = Contains_from (kept_edges v) x (In-flat_map (cell_edges v) (cells v) c x i (in_cell c e h)) in
-      let at = (list_is.members x).1 (filtered (kept_edges v) x b kept) in
-      In_from (bipolar_edges v) x at.0 at.1 at.2
+      let at = (list_is.members x).1 (Contains-filtered (is_bipolar v) (kept_edges v) x b kept) in
+      In_from_place (bipolar_edges v) x at.0 at.1 at.2
 
   -- each edge of the list is bipolar
   pub listed_bipolar : (k : ℕ) → k < length (bipolar_edges v) → is_bipolar v (bipolar_edge v k) ≡ true
   listed_bipolar k h =
       let e : Edge = bipolar_edge v k in
       let c = (list_is.members e).0 (Contains-at (bipolar_edges v) k (record { low = []; high = [] }) h) in
-      (Split.from_filter (is_bipolar v) (kept_edges v) e (Split.In_from (filter (is_bipolar v) (kept_edges v)) e c)).1
+      Contains-passes (is_bipolar v) (kept_edges v) e c
 
   -- and stands at its place
   pub listed_place : (k : ℕ) → k < length (bipolar_edges v) → place_in (bipolar_edges v) (bipolar_edge v k) ≡ k
-  listed_place k h = place_at (bipolar_edges v) (steps_ascend_by (Earlier midpoint) (keys_strict midpoint) (bipolar_edges v) list_is.ascends) k (record { low = []; high = [] }) h
+  listed_place k h =
+      place_at (bipolar_edges v) (steps_ascend_by (Earlier midpoint) (keys_strict midpoint) (bipolar_edges v) list_is.ascends) k
+      (record { low = []; high = [] }) h
 
   -- an edge of a cell stands in the list of its edges at its own number
   pub own_number : (c e : ℕ) → e < edge_count v.kind (length v.sizes) → position_or_len (same_edge (edge v.kind v.sizes c e)) (cell_edges v c) ≡ e
@@ -194,14 +191,16 @@ module _ (v : Volume) (regular : IsRegularVolume v) where
       let n : ℕ = place_in (cell_edges v c) x in
       let long : length (cell_edges v c) ≡ count = length-map-range_with_len (edge v.kind v.sizes c) 0 count in
       let inside : n < count = omega (arith, long, place_below (cell_edges v c) x (in_cell c e h)) in
-      let there : slice_index_or (cell_edges v c) n x ≡ edge v.kind v.sizes c n = get_or-map-range_with_len (edge v.kind v.sizes c) 0 count n n x inside (omega arith) in
+      let there : slice_index_or (cell_edges v c) n x ≡ edge v.kind v.sizes c n =
+      get_or-map-range_with_len (edge v.kind v.sizes c) 0 count n n x inside (omega arith) in
       own_edge v.kind v.sizes regular.fits c n e inside h (sym there ∙ at_place (cell_edges v c) x x (in_cell c e h))
 
   -- ---- of the pieces
 
   module _ (t : Table) where
     -- a bipolar edge of a cell is one of its edges, and bipolar
-    pub bipolar_is : (c e : ℕ) → (pieces_of v t).is_bipolar c e ≡ true → (e < edge_count v.kind (length v.sizes)) × (is_bipolar v (edge v.kind v.sizes c e) ≡ true)
+    pub bipolar_is : (c e : ℕ) → (pieces_of v t).is_bipolar c e ≡ true
+        → (e < edge_count v.kind (length v.sizes)) × (is_bipolar v (edge v.kind v.sizes c e) ≡ true)
     bipolar_is c e b =
         let test = and_left (nat_lt e (edge_count v.kind (length v.sizes))) (is_bipolar v (edge v.kind v.sizes c e)) b in
         (less e (edge_count v.kind (length v.sizes)) test, and_right (nat_lt e (edge_count v.kind (length v.sizes))) (is_bipolar v (edge v.kind v.sizes c e)) b)
@@ -210,8 +209,11 @@ module _ (v : Volume) (regular : IsRegularVolume v) where
         less a n h = grind (arith, nat_tests)
 
     -- and each bipolar edge of the cell is one of the piece
-    pub is_bipolar_from : (c e : ℕ) → e < edge_count v.kind (length v.sizes) → is_bipolar v (edge v.kind v.sizes c e) ≡ true → (pieces_of v t).is_bipolar c e ≡ true
-    is_bipolar_from c e h b = both (nat_lt e (edge_count v.kind (length v.sizes))) (is_bipolar v (edge v.kind v.sizes c e)) (less e (edge_count v.kind (length v.sizes)) h) b
+    pub is_bipolar_from : (c e : ℕ) → e < edge_count v.kind (length v.sizes) → is_bipolar v (edge v.kind v.sizes c e) ≡ true
+        → (pieces_of v t).is_bipolar c e ≡ true
+    is_bipolar_from c e h b =
+        and_from (nat_lt e (edge_count v.kind (length v.sizes))) (is_bipolar v (edge v.kind v.sizes c e))
+        (less e (edge_count v.kind (length v.sizes)) h) b
       where
         less : (a n : ℕ) → a < n → nat_lt a n ≡ true
         less a n q = grind (arith, nat_tests)

@@ -3,7 +3,7 @@ pub mod Labels
 pub mod Edges
 pub mod Chords
 pub mod FreeFacets
-pub mod AcrossFound
+pub mod PiecesAcross
 pub mod AcrossStands
 pub mod AcrossEdges
 pub mod Seams

@@ -1,7 +1,7 @@
 -- The cells of a volume with the entries of a table, as cells that are to be glued.
 use Rattle.std.specs.Prelude.{ℕ, not, ◌&&◌, ◌==◌, nat_lt, List, map, flat_map, find, length, Option, Some, None}
 use Rattle.std.specs.List.{position_or_len}
-use Rattle.iso_model.specs.Orders.{numbers}
+use Rattle.lists.specs.Orders.{numbers}
 use Rattle.iso_model.specs.Cells.{edge_count, edge_in_facet, facet_count}
 use Rattle.iso_model.specs.Splits.{edge, is_odd_cell}
 use Rattle.iso_model.specs.Neighbours.{facet_points}

@@ -1,9 +1,10 @@
 use Rattle.std.proofs.Common.{◌∙◌, ◌<◌, ◌+◌, ℕ, length, List, [], ◌∷◌, ◌++◌, take, arith, ap, sym, subst}
-use Rattle.iso_model.specs.Commands.{BeginRight, IsWrongWord, Say}
+use Rattle.iso_formats.specs.Commands.{BeginRight, IsWrongWord, Say}
 use Rattle.iso_words.specs.Built.{is_built, texts, asked}
 use Rattle.iso_words.specs.Keys.{name_text}
 use Rattle.iso_words.specs.Given.{Gave}
-use Rattle.iso_words.proofs.WrongLemmas.{Say-one, asked_built, few_given, IsWrongWord-one, length-texts, never_said, texts-first, texts-more, texts-end, wrong_empty, wrong_first, wrong_further, wrong_early}
+use Rattle.iso_words.proofs.WrongLemmas.{Say-one, asked_built, few_given, IsWrongWord-one, length-texts, never_said, texts-first, texts-more}
+use Rattle.iso_words.proofs.WrongLemmas.{texts-end, wrong_empty, wrong_first, wrong_further, wrong_early}
 use Rattle.iso_words.proofs.parse.Goals as goal
 
 pub returns-in_default-clause-place : goal.returns-in_default-clause-place
@@ -29,11 +30,14 @@ returns-then-not-take-clause-place c =
     let further = c.in-Some.further.now in
     let i = c.loop-i.i in
     let in' : i < length further = omega arith in
-    let more = ap (λ (t : List ℕ). take i (texts further) ++ t ∷ []) c.as_str-in-loop-i.ensures.value ∙ texts-more further i c.index-further-i.result in' c.index-further-i.is in
+    let more =
+        ap (λ (t : List ℕ). take i (texts further) ++ t ∷ []) c.as_str-in-loop-i.ensures.value
+            ∙ texts-more further i c.index-further-i.result in' c.index-further-i.is in
     subst (λ (ws : List (List ℕ)). IsWrongWord is_built ws (i + 2))
     (sym (texts-first c.args.words.now further c.in-Some.first.now name c.in-Some.ensures.cases.0 (sym c.as_str.ensures.value ∙ c.in-Some-named.ensures)))
     (wrong_further name (texts further) i c.loop-i.given (omega (arith, length-texts further)) c.loop-i.invariant.gave
-    (λ b. c.if-not-take.ensures.refused (take i (texts further)) c.loop-i.invariant.gave (subst (λ (ws : List (List ℕ)). BeginRight is_built (name_text name ∷ ws)) (sym more) b)))
+    (λ b. c.if-not-take.ensures.refused (take i (texts further)) c.loop-i.invariant.gave
+        (subst (λ (ws : List (List ℕ)). BeginRight is_built (name_text name ∷ ws)) (sym more) b)))
 
 pub returns-then-not-take-clause-exact : goal.returns-then-not-take-clause-exact
 returns-then-not-take-clause-exact c = never_said (texts c.args.words.now) (c.loop-i.i + 2) (returns-then-not-take-clause-place c)
@@ -44,7 +48,9 @@ loop-i-preserved c =
     let further = c.in-Some.further.now in
     let i = c.loop-i.i in
     let in' : i < length further = omega arith in
-    let more = ap (λ (t : List ℕ). take i (texts further) ++ t ∷ []) c.as_str-in-loop-i.ensures.value ∙ texts-more further i c.index-further-i.result in' c.index-further-i.is in
+    let more =
+        ap (λ (t : List ℕ). take i (texts further) ++ t ∷ []) c.as_str-in-loop-i.ensures.value
+            ∙ texts-more further i c.index-further-i.result in' c.index-further-i.is in
     record {
       gave = subst (λ (ws : List (List ℕ)). Gave name ws c.take.new.self) more (c.if-not-take.ensures.taken (take i (texts further)) c.loop-i.invariant.gave);
       count = c.if-not-take.ensures.count ∙ ap (λ (n : ℕ). n + 1) c.loop-i.invariant.count;
@@ -67,7 +73,8 @@ returns-in-Some-command-clause-said c =
 
 pub returns-in-Some-command-clause-exact : goal.returns-in-Some-command-clause-exact
 returns-in-Some-command-clause-exact c = λ command b s.
-    Say-one (texts c.args.words.now) (asked c.in-Some-command.command) command (asked_built c.in-Some-command.command) b (returns-in-Some-command-clause-said c) s
+    Say-one (texts c.args.words.now) (asked c.in-Some-command.command) command (asked_built c.in-Some-command.command) b
+        (returns-in-Some-command-clause-said c) s
 
 pub returns-in-None-clause-place : goal.returns-in-None-clause-place
 returns-in-None-clause-place c =
@@ -94,4 +101,7 @@ pub returns-in-None-clause-wrong : goal.returns-in-None-clause-wrong
 returns-in-None-clause-wrong c = λ n w. IsWrongWord-one (texts c.args.words.now) (length c.in-Some.further.now + 2) n (returns-in-None-clause-place c) w
 
 pub returns-in-Some-command-clause-wrong : goal.returns-in-Some-command-clause-wrong
-returns-in-Some-command-clause-wrong c = λ n w. never_said (texts c.args.words.now) n w (asked c.in-Some-command.command) (asked_built c.in-Some-command.command) (returns-in-Some-command-clause-said c)
+returns-in-Some-command-clause-wrong c =
+    λ n w.
+        never_said (texts c.args.words.now) n w (asked c.in-Some-command.command) (asked_built c.in-Some-command.command)
+            (returns-in-Some-command-clause-said c)

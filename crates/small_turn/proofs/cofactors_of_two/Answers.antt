@@ -1,7 +1,8 @@
 use Rattle.std.proofs.Common.{ℤ, sym, ◌∙◌, lit<, subst, List}
-use Rattle.small_turn.proofs.TurnLaws.{three_same, cofactors-two_rows}
+use Rattle.small_turn.proofs.TurnLaws.{cofactors-two_rows}
 use Rattle.polynomials.specs.Small.{AreSmall}
 use Rattle.polynomials.proofs.SmallLaws.{small-back, AreSmall-back, three_small}
+use Rattle.small_turn.proofs.Cramer.{three_same}
 use Rattle.small_turn.proofs.cofactors_of_two.Goals as goal
 
 pub returns-clause-value : goal.returns-clause-value
@@ -23,4 +24,5 @@ returns-clause-small c =
     let s' = small-back 8192 c.turn_two-second.result (lit< tt) c.turn_two-second.ensures.small in
     let t' = small-back 8192 c.turn_two-third.result (lit< tt) c.turn_two-third.ensures.small in
     subst (λ (xs : List ℤ). AreSmall 8192 xs) (sym (three_same _ _ _ _ _ _ f' s' t'))
-    (three_small 8192 c.turn_two-first.result c.turn_two-second.result c.turn_two-third.result c.turn_two-first.ensures.small c.turn_two-second.ensures.small c.turn_two-third.ensures.small)
+    (three_small 8192 c.turn_two-first.result c.turn_two-second.result c.turn_two-third.result c.turn_two-first.ensures.small
+    c.turn_two-second.ensures.small c.turn_two-third.ensures.small)

@@ -12,7 +12,9 @@ overflow_sub-result c =
     let bc : IsSmall 4096 (c.args.b *ℤ c.args.c) = small-mul 64 64 c.args.b c.args.c c.requires.b_small c.requires.c_small in
     let fad : FitsSigned w64 (c.args.a *ℤ c.args.d) = small-fits 4096 (c.args.a *ℤ c.args.d) ad (lit< tt) in
     let fbc : FitsSigned w64 (c.args.b *ℤ c.args.c) = small-fits 4096 (c.args.b *ℤ c.args.c) bc (lit< tt) in
-    simp to_z-of_z (small-fits 8192 (c.args.a *ℤ c.args.d -ℤ c.args.b *ℤ c.args.c) (small-sub 4096 4096 (c.args.a *ℤ c.args.d) (c.args.b *ℤ c.args.c) ad bc) (lit< tt))
+    simp to_z-of_z
+    (small-fits 8192 (c.args.a *ℤ c.args.d -ℤ c.args.b *ℤ c.args.c) (small-sub 4096 4096 (c.args.a *ℤ c.args.d) (c.args.b *ℤ c.args.c) ad bc)
+    (lit< tt))
 
 pub returns-clause-value : goal.returns-clause-value
 returns-clause-value c =
@@ -22,7 +24,9 @@ returns-clause-value c =
     let bc : IsSmall 4096 (c.args.b *ℤ c.args.c) = small-mul 64 64 c.args.b c.args.c c.requires.b_small c.requires.c_small in
     let fad : FitsSigned w64 (c.args.a *ℤ c.args.d) = small-fits 4096 (c.args.a *ℤ c.args.d) ad (lit< tt) in
     let fbc : FitsSigned w64 (c.args.b *ℤ c.args.c) = small-fits 4096 (c.args.b *ℤ c.args.c) bc (lit< tt) in
-    let fs : FitsSigned w64 (c.args.a *ℤ c.args.d -ℤ c.args.b *ℤ c.args.c) = small-fits 8192 (c.args.a *ℤ c.args.d -ℤ c.args.b *ℤ c.args.c) (small-sub 4096 4096 (c.args.a *ℤ c.args.d) (c.args.b *ℤ c.args.c) ad bc) (lit< tt) in
+    let fs : FitsSigned w64 (c.args.a *ℤ c.args.d -ℤ c.args.b *ℤ c.args.c) =
+    small-fits 8192 (c.args.a *ℤ c.args.d -ℤ c.args.b *ℤ c.args.c) (small-sub 4096 4096 (c.args.a *ℤ c.args.d) (c.args.b *ℤ c.args.c) ad bc)
+    (lit< tt) in
     simp to_z-of_z
 
 pub returns-clause-small : goal.returns-clause-small
@@ -33,5 +37,7 @@ returns-clause-small c =
     let bc : IsSmall 4096 (c.args.b *ℤ c.args.c) = small-mul 64 64 c.args.b c.args.c c.requires.b_small c.requires.c_small in
     let fad : FitsSigned w64 (c.args.a *ℤ c.args.d) = small-fits 4096 (c.args.a *ℤ c.args.d) ad (lit< tt) in
     let fbc : FitsSigned w64 (c.args.b *ℤ c.args.c) = small-fits 4096 (c.args.b *ℤ c.args.c) bc (lit< tt) in
-    let fs : FitsSigned w64 (c.args.a *ℤ c.args.d -ℤ c.args.b *ℤ c.args.c) = small-fits 8192 (c.args.a *ℤ c.args.d -ℤ c.args.b *ℤ c.args.c) (small-sub 4096 4096 (c.args.a *ℤ c.args.d) (c.args.b *ℤ c.args.c) ad bc) (lit< tt) in
+    let fs : FitsSigned w64 (c.args.a *ℤ c.args.d -ℤ c.args.b *ℤ c.args.c) =
+    small-fits 8192 (c.args.a *ℤ c.args.d -ℤ c.args.b *ℤ c.args.c) (small-sub 4096 4096 (c.args.a *ℤ c.args.d) (c.args.b *ℤ c.args.c) ad bc)
+    (lit< tt) in
     simp to_z-of_z (small-sub 4096 4096 (c.args.a *ℤ c.args.d) (c.args.b *ℤ c.args.c) ad bc)

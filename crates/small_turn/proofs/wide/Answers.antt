@@ -12,7 +12,9 @@ loop-i-preserved g c =
       length-set _ _ _ ∙ c.loop-i.invariant.0,
       copied_more c.loop-i.out c.args.row.now c.loop-i.i _ c.from.result (omega arith)
           (to_z-of_z w64 c.from.result (record { sfits = c.from.type_inv }))
-          (c.from.ensures ∙ to_z-of_z w32 (get_or c.args.row.now c.loop-i.i (pos 0)) (small-fits_narrow 64 (get_or c.args.row.now c.loop-i.i (pos 0)) small (lit< tt)))
+          (c.from.ensures
+          ∙ to_z-of_z w32 (get_or c.args.row.now c.loop-i.i (pos 0))
+          (small-fits_narrow 64 (get_or c.args.row.now c.loop-i.i (pos 0)) small (lit< tt)))
           c.loop-i.invariant.1,
     )
 

@@ -1,7 +1,7 @@
 use Rattle.std.proofs.Common.{◌≡◌, filter}
-use Rattle.iso_model.specs.Orders.{numbers}
-use Rattle.iso_model.specs.Hulls.{set_number}
+use Rattle.lists.specs.Orders.{numbers}
 use Rattle.case_patch.specs.BoundarySets.{is_in_facet}
+use Rattle.lists.specs.Bits.{set_number}
 use Rattle.case_patch.proofs.boundary.facet_points.Given as goal
 
 -- the number of the points so far that lie in the facet

@@ -1,6 +1,6 @@
 use Rattle.std.proofs.Common.{◌<◌, length, slice_index, arith}
 use Rattle.std.proofs.lemmas.List.Elements.{All-from_get_or}
-use Rattle.case_patch.proofs.AddedTuples.{mapped_from}
+use Rattle.lists.proofs.MemberLaws.{mapped_from}
 use Rattle.case_patch.proofs.patches.named.Goals as goal
 
 pub returns-clause-named : goal.returns-clause-named

@@ -1,5 +1,5 @@
 use Rattle.std.proofs.Common.{◌≡◌, filter}
-use Rattle.iso_model.specs.Orders.{numbers}
+use Rattle.lists.specs.Orders.{numbers}
 use Rattle.iso_model.specs.Bipolar.{is_bipolar_in}
 use Rattle.case_patch.proofs.points.bipolar_edges.Given as goal
 

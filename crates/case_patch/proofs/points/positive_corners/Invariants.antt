@@ -1,6 +1,6 @@
 use Rattle.std.proofs.Common.{◌≡◌, filter}
-use Rattle.iso_model.specs.Orders.{numbers}
-use Rattle.iso_model.specs.Cells.{is_set}
+use Rattle.lists.specs.Orders.{numbers}
+use Rattle.lists.specs.Bits.{is_set}
 use Rattle.case_patch.proofs.points.positive_corners.Given as goal
 
 -- the positive corners so far

@@ -2,7 +2,7 @@ use Rattle.std.proofs.Common.{lit<, ℤ, List, pos, get_or, ◌-ℤ◌, ◌∙�
 use Rattle.iso_model.specs.Turns.{minus}
 use Rattle.small_turn.proofs.PointLaws.{get_or-minus}
 use Rattle.small_turn.proofs.Planes.{length-minus}
-use Rattle.small_turn.proofs.RowLaws.{AreSmall-minus}
+use Rattle.small_turn.proofs.MatrixRows.{AreSmall-minus}
 use Rattle.polynomials.specs.Small.{AreSmall}
 use Rattle.polynomials.proofs.SmallLaws.{same_ints, written_more}
 use Rattle.case_patch.proofs.Narrow.{narrow_difference}

@@ -4,7 +4,7 @@ use Rattle.iso_model.specs.declared.Kind.TheVariants.{Cube}
 use Rattle.iso_model.specs.Points.{axes}
 use Rattle.iso_model.specs.Cells.{HasDimension, corner_basis}
 use Rattle.cell_lattice.specs.CellLemmas.{basis_edges}
-use Rattle.cell_lattice.specs.Dimensions.{IsDimension}
+use Rattle.iso_model.specs.Dimensions.{IsDimension}
 use Rattle.cell_lattice.specs.Agreement.{agree_in_each}
 use Rattle.cell_lattice.specs.declared.cubes.TheConstants.{BASES}
 use Rattle.cell_lattice.proofs.cubes.cube_basis.Goals as goal

@@ -4,4 +4,5 @@ use Rattle.cell_lattice.proofs.cubes.cube_basis.Given as goal
 
 abbrev pub invariant-loop-axis : goal.invariant-loop-axis
 invariant-loop-axis g l =
-    (length l.basis ≡ g.row.D) × ((i : ℕ) → i < l.axis → slice_index_or l.basis i 0 ≡ slice_index_or (slice_index_or (slice_index_or BASES (g.row.D - 2) []) l.corner []) i 0)
+    (length l.basis ≡ g.row.D)
+    × ((i : ℕ) → i < l.axis → slice_index_or l.basis i 0 ≡ slice_index_or (slice_index_or (slice_index_or BASES (g.row.D - 2) []) l.corner []) i 0)

@@ -4,7 +4,7 @@ use Rattle.iso_model.specs.declared.Kind.TheVariants.{Simplex}
 use Rattle.iso_model.specs.Points.{axes}
 use Rattle.iso_model.specs.Cells.{HasDimension, corner_basis}
 use Rattle.cell_lattice.specs.CellLemmas.{basis_edges}
-use Rattle.cell_lattice.specs.Dimensions.{IsDimension}
+use Rattle.iso_model.specs.Dimensions.{IsDimension}
 use Rattle.cell_lattice.specs.Agreement.{agree_in_each}
 use Rattle.cell_lattice.specs.declared.simplices.TheConstants.{BASES}
 use Rattle.cell_lattice.proofs.simplices.simplex_basis.Goals as goal

@@ -1,5 +1,5 @@
 use Rattle.std.proofs.Common.{◌≡◌, int_le}
-use Rattle.cube_cells.specs.Points.{set_of, corner_sample}
+use Rattle.cube_cells.specs.CubePoints.{set_of, corner_sample}
 use Rattle.cube_cells.proofs.points.corner_signs.Given as goal
 
 abbrev pub invariant-loop-corner : goal.invariant-loop-corner

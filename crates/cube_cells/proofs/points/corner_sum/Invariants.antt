@@ -1,7 +1,7 @@
 use Rattle.std.proofs.Common.{◌≡◌, ◌*◌, ◌≤◌, take}
 use Rattle.std.specs.Prelude.{unsigned_abs}
 use Rattle.iso_model.specs.Turns.{total}
-use Rattle.mixed_cubes.specs.Faces.{face_samples}
+use Rattle.mixed_cubes.specs.CubeFaces.{face_samples}
 use Rattle.cube_cells.proofs.points.corner_sum.Given as goal
 
 abbrev pub invariant-loop-step : goal.invariant-loop-step

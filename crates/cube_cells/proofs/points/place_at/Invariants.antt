@@ -1,7 +1,7 @@
 use Rattle.std.proofs.Common.{◌≡◌, ℕ, ◌<◌, length, slice_index_or}
 use Rattle.std.specs.Prelude.{drop}
 use Rattle.iso_model.specs.Splits.{cube_count, cube_at}
-use Rattle.cube_cells.specs.Points.{sizes_of}
+use Rattle.cube_cells.specs.CubePoints.{sizes_of}
 use Rattle.cube_cells.proofs.points.place_at.Given as goal
 
 abbrev pub invariant-loop-axis : goal.invariant-loop-axis

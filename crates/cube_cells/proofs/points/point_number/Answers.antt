@@ -1,6 +1,6 @@
 use Rattle.std.proofs.Common.{ℕ, Bool, slice_index_or, refl}
 use Rattle.std.specs.Prelude.{◌==◌}
-use Rattle.cube_cells.proofs.SetBits.{next_bit, few_bits}
+use Rattle.cube_cells.proofs.SignBits.{next_bit, few_bits}
 use Rattle.cube_cells.proofs.points.point_number.Goals as goal
 
 pub with_bit-number-requires-clause-below : goal.with_bit-number-requires-clause-below

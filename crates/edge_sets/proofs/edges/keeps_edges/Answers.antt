@@ -10,17 +10,25 @@ loop-tuple-init g c = record { sound = refl; cover = cover_none }
 
 pub loop-tuple-preserved : goal.loop-tuple-preserved
 loop-tuple-preserved g c = record {
-  sound = all_more c.args.bipolar c.args.tuples.now c.loop-tuple.tuple-index c.tuple-item.result c.loop-tuple-test.true c.tuple-item.is c.loop-tuple.invariant.sound c.in-Some.ensures.sound;
+  sound =
+      all_more c.args.bipolar c.args.tuples.now c.loop-tuple.tuple-index c.tuple-item.result c.loop-tuple-test.true c.tuple-item.is
+      c.loop-tuple.invariant.sound c.in-Some.ensures.sound;
   cover =
-      cover_more c.loop-tuple.covered c.in-Some.edges c.joined-covered.result c.args.tuples.now c.loop-tuple.tuple-index c.tuple-item.result c.loop-tuple-test.true c.tuple-item.is
+      cover_more c.loop-tuple.covered c.in-Some.edges c.joined-covered.result c.args.tuples.now c.loop-tuple.tuple-index c.tuple-item.result
+      c.loop-tuple-test.true c.tuple-item.is
       c.loop-tuple.invariant.cover c.in-Some.ensures.set c.joined-covered.ensures;
 }
 
 pub returns-in-None : goal.returns-in-None
-returns-in-None g c = λ kind label s. unsound kind g.row.D label c.args.bipolar c.args.tuples.now c.loop-tuple.tuple-index c.tuple-item.result s c.loop-tuple-test.true c.tuple-item.is c.in-None.ensures.unsound
+returns-in-None g c =
+    λ kind label s.
+    unsound kind g.row.D label c.args.bipolar c.args.tuples.now c.loop-tuple.tuple-index c.tuple-item.result s c.loop-tuple-test.true
+    c.tuple-item.is c.in-None.ensures.unsound
 
 pub returns : goal.returns
 returns g c = λ kind label s.
     edges_rule kind g.row.D label c.args.bipolar c.loop-tuple.covered c.args.tuples.now s
-    (subst (λ (l : List (List ℕ)). list_all (is_sound_in c.args.bipolar) l ≡ true) (take_all c.loop-tuple.tuple-index c.args.tuples.now c.loop-tuple-test.false) c.loop-tuple.invariant.sound)
-    (subst (λ (l : List (List ℕ)). IsCover c.loop-tuple.covered l) (take_all c.loop-tuple.tuple-index c.args.tuples.now c.loop-tuple-test.false) c.loop-tuple.invariant.cover)
+    (subst (λ (l : List (List ℕ)). list_all (is_sound_in c.args.bipolar) l ≡ true)
+    (take_all c.loop-tuple.tuple-index c.args.tuples.now c.loop-tuple-test.false) c.loop-tuple.invariant.sound)
+    (subst (λ (l : List (List ℕ)). IsCover c.loop-tuple.covered l) (take_all c.loop-tuple.tuple-index c.args.tuples.now c.loop-tuple-test.false)
+    c.loop-tuple.invariant.cover)

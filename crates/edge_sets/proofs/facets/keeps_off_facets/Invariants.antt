@@ -1,7 +1,7 @@
 use Rattle.std.proofs.Common.{◌≡◌, true, take}
 use Rattle.std.specs.Prelude.{not}
 use Rattle.std.specs.List.{list_all, list_any}
-use Rattle.iso_model.specs.Cells.{is_set}
+use Rattle.lists.specs.Bits.{is_set}
 use Rattle.edge_sets.proofs.facets.keeps_off_facets.Given as goal
 
 abbrev pub invariant-loop-tuple : goal.invariant-loop-tuple

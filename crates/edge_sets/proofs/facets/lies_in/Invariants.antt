@@ -1,6 +1,6 @@
 use Rattle.std.proofs.Common.{◌≡◌, true, take}
 use Rattle.std.specs.List.{list_all}
-use Rattle.iso_model.specs.Cells.{is_set}
+use Rattle.lists.specs.Bits.{is_set}
 use Rattle.edge_sets.proofs.facets.lies_in.Given as goal
 
 abbrev pub invariant-loop-edge : goal.invariant-loop-edge

@@ -1,6 +1,6 @@
 use Rattle.std.proofs.Common.{◌≡◌, false, take}
 use Rattle.std.specs.List.{list_all, list_any}
-use Rattle.iso_model.specs.Cells.{is_set}
+use Rattle.lists.specs.Bits.{is_set}
 use Rattle.edge_sets.proofs.facets.lies_in_some.Given as goal
 
 abbrev pub invariant-loop-set : goal.invariant-loop-set

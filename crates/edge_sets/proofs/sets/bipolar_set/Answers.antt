@@ -16,9 +16,11 @@ loop-edge-preserved c =
     let told = differs_as label p c.has_member.result c.has_member-in-loop-edge.result in
     elim c.if-has_member.branch [
       | then-has_member w ↦ rw w.set-is
-          (bipolar_more label c.loop-edge.set w.with_edge-set.result i ends true s (told true c.has_member.ensures c.has_member-in-loop-edge.ensures w.if-has_member.true)
+          (bipolar_more label c.loop-edge.set w.with_edge-set.result i ends true s
+          (told true c.has_member.ensures c.has_member-in-loop-edge.ensures w.if-has_member.true)
           w.with_edge-set.ensures.same w.with_edge-set.ensures.others)
       | else-has_member w ↦ rw w.set-is
-          (bipolar_more label c.loop-edge.set c.loop-edge.set i ends false s (told false c.has_member.ensures c.has_member-in-loop-edge.ensures w.if-has_member.false)
+          (bipolar_more label c.loop-edge.set c.loop-edge.set i ends false s
+          (told false c.has_member.ensures c.has_member-in-loop-edge.ensures w.if-has_member.false)
           (s.others i (omega arith)) (λ e ne. refl))
     ]

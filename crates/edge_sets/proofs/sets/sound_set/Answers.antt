@@ -14,8 +14,12 @@ loop-edge-preserved g c =
     let inside : i < length w = omega (arith, c.told-tuple, c.loop-edge-test.true) in
     let read : x ≡ get_or w i x = get_or_default w i 0 x inside in
     record {
-      sound = sound_more c.args.within w i x inside read c.loop-edge.invariant.sound (sym (c.loop-edge.invariant.set x) ∙ sym c.if-has_member.ensures) (sym c.if-not-has_member.ensures);
-      set = set_more c.loop-edge.set c.with_edge-set.result w i x inside read c.loop-edge.invariant.set c.with_edge-set.ensures.same c.with_edge-set.ensures.others;
+      sound =
+          sound_more c.args.within w i x inside read c.loop-edge.invariant.sound (sym (c.loop-edge.invariant.set x) ∙ sym c.if-has_member.ensures)
+          (sym c.if-not-has_member.ensures);
+      set =
+          set_more c.loop-edge.set c.with_edge-set.result w i x inside read c.loop-edge.invariant.set c.with_edge-set.ensures.same
+          c.with_edge-set.ensures.others;
     }
 
 pub returns-then-has_member-clause-unsound : goal.returns-then-has_member-clause-unsound

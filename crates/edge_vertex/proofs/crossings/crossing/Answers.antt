@@ -3,7 +3,7 @@ use Rattle.std.specs.Prelude.{map}
 use Rattle.std.proofs.lemmas.Int.{ints}
 use Rattle.iso_model.specs.Points.{axes}
 use Rattle.iso_model.specs.Crossing.{crossing}
-use Rattle.edge_vertex.specs.Ends.{coordinate_between}
+use Rattle.edge_vertex.specs.EdgeEnds.{coordinate_between}
 use Rattle.edge_vertex.proofs.Quotients.{lies_between}
 use Rattle.edge_vertex.proofs.crossings.crossing.Goals as goal
 
@@ -25,4 +25,8 @@ returns g c =
     let way : c.abs_diff-way.result ≡ unsigned_abs (c.args.high -ℤ c.args.low) = search rules in
     c.point_between.ensures
     ∙ ap (λ (n : ℕ). map (coordinate_between c.args.edge.now.low c.args.edge.now.high n c.abs_diff-way.result) (axes (length c.args.edge.now.low))) part
-    ∙ ap (λ (n : ℕ). map (coordinate_between c.args.edge.now.low c.args.edge.now.high (unsigned_abs (pos 8 *ℤ c.args.iso -ℤ c.args.low)) n) (axes (length c.args.edge.now.low))) way
+    ∙ ap
+        (λ (n : ℕ).
+             map (coordinate_between c.args.edge.now.low c.args.edge.now.high (unsigned_abs (pos 8 *ℤ c.args.iso -ℤ c.args.low)) n)
+                 (axes (length c.args.edge.now.low)))
+        way

@@ -10,7 +10,10 @@ next_place-place-requires g c =
     let axis : ℕ = c.loop-axis.axis - 1 in
     let from : PlaceFrom c.args.sizes.now c.args.point.now (axis + 1) c.loop-axis.place =
     subst (λ (n : ℕ). PlaceFrom c.args.sizes.now c.args.point.now n c.loop-axis.place) (omega (arith, c.loop-axis-test.true)) c.loop-axis.invariant in
-    let next = one_axis_more c.args.sizes.now c.args.point.now axis c.loop-axis.place (omega (arith, c.loop-axis-test.true, c.loop-axis.auto.axis, c.requires.axes)) (omega (arith, c.requires.axes)) (λ j h. c.requires.inside j (omega (arith, h, c.requires.axes))) from in
+    let next =
+        one_axis_more c.args.sizes.now c.args.point.now axis c.loop-axis.place
+            (omega (arith, c.loop-axis-test.true, c.loop-axis.auto.axis, c.requires.axes)) (omega (arith, c.requires.axes))
+            (λ j h. c.requires.inside j (omega (arith, h, c.requires.axes))) from in
     omega (arith, next.few, c.requires.few)
 
 pub loop-axis-preserved : goal.loop-axis-preserved
@@ -18,7 +21,10 @@ loop-axis-preserved g c =
     let axis : ℕ = c.loop-axis.axis - 1 in
     let from : PlaceFrom c.args.sizes.now c.args.point.now (axis + 1) c.loop-axis.place =
     subst (λ (n : ℕ). PlaceFrom c.args.sizes.now c.args.point.now n c.loop-axis.place) (omega (arith, c.loop-axis-test.true)) c.loop-axis.invariant in
-    let next = one_axis_more c.args.sizes.now c.args.point.now axis c.loop-axis.place (omega (arith, c.loop-axis-test.true, c.loop-axis.auto.axis, c.requires.axes)) (omega (arith, c.requires.axes)) (λ j h. c.requires.inside j (omega (arith, h, c.requires.axes))) from in
+    let next =
+        one_axis_more c.args.sizes.now c.args.point.now axis c.loop-axis.place
+            (omega (arith, c.loop-axis-test.true, c.loop-axis.auto.axis, c.requires.axes)) (omega (arith, c.requires.axes))
+            (λ j h. c.requires.inside j (omega (arith, h, c.requires.axes))) from in
     rw c.next_place-place.ensures next.next
 
 pub returns : goal.returns

@@ -1,5 +1,5 @@
 use Rattle.std.specs.Prelude.{map}
-use Rattle.iso_model.specs.Orders.{numbers}
+use Rattle.lists.specs.Orders.{numbers}
 use Rattle.face_tallies.specs.Parts.{AddsParts, part_at}
 use Rattle.face_tallies.proofs.gather.add_faces.Given as goal
 

@@ -1,13 +1,15 @@
 use Rattle.std.proofs.Common.{◌≡◌, ◌<◌, ◌-◌, ◌∷◌, length, arith, take, [], pos, slice_index_or}
 use Rattle.std.proofs.lemmas.List.Elements.{All-nil}
-use Rattle.iso_model.proofs.Deciding.{any_default}
 use Rattle.face_tallies.specs.declared.faces.FaceTally.{FaceTally}
 use Rattle.face_tallies.specs.Parts.{IsWeighed, put_at}
 use Rattle.face_tallies.proofs.PartLaws.{put_adds, adds_none, adds_more, taken_more, below_none, below_more, ascends_more}
+use Rattle.lists.proofs.Contained.{any_default}
 use Rattle.face_tallies.proofs.parts.merge.Goals as goal
 
 pub loop-part-init : goal.loop-part-init
-loop-part-init c = rw c.clear.ensures.items (record { adds = adds_none [] (All-nil IsWeighed); ascends = λ k d h. absurd (omega arith); below = below_none c.args.parts.now })
+loop-part-init c =
+    rw c.clear.ensures.items
+        (record { adds = adds_none [] (All-nil IsWeighed); ascends = λ k d h. absurd (omega arith); below = below_none c.args.parts.now })
 
 pub loop-part-preserved : goal.loop-part-preserved
 loop-part-preserved c =

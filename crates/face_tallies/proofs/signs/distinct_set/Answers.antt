@@ -1,6 +1,7 @@
 use Rattle.std.proofs.Common.{sym, ◌∙◌, ◌≡◌, ◌<◌, length, get_or, arith, refl}
 use Rattle.std.proofs.lemmas.List.{get_or_default}
-use Rattle.face_tallies.proofs.DistinctSets.{set_none, set_more, distinct_more, repeated}
+use Rattle.face_tallies.proofs.DistinctSets.{distinct_more, repeated}
+use Rattle.edge_sets.proofs.SetLaws.{set_none, set_more}
 use Rattle.face_tallies.proofs.signs.distinct_set.Goals as goal
 
 pub loop-edge-init : goal.loop-edge-init
@@ -15,7 +16,9 @@ loop-edge-preserved g c =
     let read : x ≡ get_or w i x = get_or_default w i 0 x inside in
     record {
       distinct = distinct_more w i x inside read c.loop-edge.invariant.distinct (sym (c.loop-edge.invariant.set x) ∙ sym c.if-has_member.ensures);
-      set = set_more c.loop-edge.set c.with_edge-set.result w i x inside read c.loop-edge.invariant.set c.with_edge-set.ensures.same c.with_edge-set.ensures.others;
+      set =
+          set_more c.loop-edge.set c.with_edge-set.result w i x inside read c.loop-edge.invariant.set c.with_edge-set.ensures.same
+              c.with_edge-set.ensures.others;
     }
 
 pub returns-then-has_member-clause-repeated : goal.returns-then-has_member-clause-repeated

@@ -1,5 +1,5 @@
 use Rattle.std.proofs.Common.{◌≡◌, true, take}
-use Rattle.iso_model.specs.Orders.{is_distinct}
+use Rattle.lists.specs.Orders.{is_distinct}
 use Rattle.edge_sets.specs.Sets.{IsSetOf}
 use Rattle.face_tallies.proofs.signs.distinct_set.Given as goal
 

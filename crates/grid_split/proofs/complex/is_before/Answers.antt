@@ -9,7 +9,11 @@ loop-axis-preserved g c =
     let long_p : length c.args.p.now ≡ g.row.D = search rules in
     let long_q : length c.args.q.now ≡ g.row.D = search rules in
     c.is_before_by-before.ensures
-    ∙ ap (λ (b : Bool). if slice_index c.args.p.now c.loop-axis.axis == slice_index c.args.q.now c.loop-axis.axis then b else nat_lt (slice_index c.args.p.now c.loop-axis.axis) (slice_index c.args.q.now c.loop-axis.axis)) c.loop-axis.invariant
+    ∙ ap
+    (λ (b : Bool).
+    if slice_index c.args.p.now c.loop-axis.axis == slice_index c.args.q.now c.loop-axis.axis then b else nat_lt
+    (slice_index c.args.p.now c.loop-axis.axis) (slice_index c.args.q.now c.loop-axis.axis))
+    c.loop-axis.invariant
     ∙ sym (before_more c.args.p.now c.args.q.now c.loop-axis.axis (omega (arith, long_p, c.loop-axis-test.true)) (long_q ∙ sym long_p))
 
 pub returns : goal.returns

@@ -1,5 +1,5 @@
 use Rattle.std.proofs.Common.{ℕ, slice_index_or, rules, ap, ◌∙◌}
-use Rattle.cell_lattice.specs.Dimensions.{IsDimension}
+use Rattle.iso_model.specs.Dimensions.{IsDimension}
 use Rattle.std.proofs.Common.{false}
 use Rattle.grid_split.specs.declared.simplices.TheConstants.{ODD}
 use Rattle.grid_split.proofs.Tables.{simplex_odd}

@@ -3,7 +3,8 @@ use Rattle.std.proofs.Common.{◌∙◌, ◌+◌, ℕ, List, arith, subst, sym, 
 use Rattle.std.proofs.lemmas.List.{take_all}
 use Rattle.std.proofs.lemmas.List.Elements.{All-contains_itself}
 use Rattle.halfspace.specs.Choices.{IsTried, AreTried}
-use Rattle.halfspace.proofs.Choosing.{AreTried-full, AreTried-next, Contains-all_trans, tried_below_more, OnOk-weaker}
+use Rattle.halfspace.proofs.Choosing.{AreTried-full, AreTried-next, Contains-all_trans, tried_below_more}
+use Rattle.lists.proofs.Results.{OnOk-weaker}
 use Rattle.halfspace.proofs.choices.+choose.Goals as goal
 
 pub returns-then-filled-clause-tried : goal.returns-then-filled-clause-tried
@@ -23,16 +24,20 @@ loop-i-init g t c = record {
 }
 
 pub returns-in_err-choose-clause-kept : goal.returns-in_err-choose-clause-kept
-returns-in_err-choose-clause-kept g t c = Contains-all_trans c.args.facets.now.items c.loop-i.facets.items c.choose.new.facets.items c.loop-i.invariant.kept c.choose.ensures.kept
+returns-in_err-choose-clause-kept g t c =
+    Contains-all_trans c.args.facets.now.items c.loop-i.facets.items c.choose.new.facets.items c.loop-i.invariant.kept c.choose.ensures.kept
 
 pub loop-i-preserved : goal.loop-i-preserved
 loop-i-preserved g t c =
     record {
       known = c.choose.ensures.known;
       kept = Contains-all_trans c.args.facets.now.items c.loop-i.facets.items c.choose.new.facets.items c.loop-i.invariant.kept c.choose.ensures.kept;
-      tried = tried_below_more g.row.D c.args.points.now c.loop-i.facets.items c.choose.new.facets.items (take c.args.filled c.args.chosen.now) c.args.start c.loop-i.i
+      tried =
+          tried_below_more g.row.D c.args.points.now c.loop-i.facets.items c.choose.new.facets.items (take c.args.filled c.args.chosen.now)
+          c.args.start c.loop-i.i
           c.loop-i.invariant.tried c.choose.ensures.kept
-          (subst (λ (xs : List ℕ). AreTried g.row.D c.args.points.now c.choose.new.facets.items xs (c.loop-i.i + 1)) c.with_next.ensures.more c.in_ok-choose.ensures.tried);
+          (subst (λ (xs : List ℕ). AreTried g.row.D c.args.points.now c.choose.new.facets.items xs (c.loop-i.i + 1)) c.with_next.ensures.more
+          c.in_ok-choose.ensures.tried);
     }
 
 pub returns-clause-tried : goal.returns-clause-tried

@@ -4,7 +4,7 @@ use Rattle.std.proofs.lemmas.Bool.{false≢true}
 use Rattle.std.proofs.lemmas.List.Elements.{All-contains_itself, Contains-append_left, Contains-get_or}
 use Rattle.halfspace.specs.Choices.{AreSomeFacets, IsTried, IsWithinSome}
 use Rattle.halfspace.proofs.Bases.{chosen_wide}
-use Rattle.halfspace.proofs.Steps.{tried_known, some_more, tried_more}
+use Rattle.halfspace.proofs.FacetSteps.{tried_known, some_more, tried_more}
 use Rattle.halfspace.proofs.choices.consider.Goals as goal
 
 pub returns-then-some_has_all-clause-kept : goal.returns-then-some_has_all-clause-kept
@@ -26,7 +26,8 @@ pub returns-in-Ok-clause-known : goal.returns-in-Ok-clause-known
 returns-in-Ok-clause-known g c =
     subst (λ (xs : List ℕ). AreSomeFacets g.row.D c.args.points.now xs) (sym c.in-Ok.ensures.items)
     (some_more g.row.D c.args.points.now c.args.choice.now c.args.facets.now.items c.in-Some.facet c.requires.known
-    (λ w. false≢true (c.if-some_has_all.ensures.1 (subst (λ (xs : List ℕ). IsWithinSome c.args.choice.now xs) (sym c.deref.ensures.value) w))) c.in-Some.ensures)
+    (λ w. false≢true (c.if-some_has_all.ensures.1 (subst (λ (xs : List ℕ). IsWithinSome c.args.choice.now xs) (sym c.deref.ensures.value) w)))
+    c.in-Some.ensures)
 
 pub returns-in-Ok-clause-kept : goal.returns-in-Ok-clause-kept
 returns-in-Ok-clause-kept g c =

@@ -2,7 +2,7 @@
 use Rattle.std.proofs.Common.{◌∙◌, ◌≡◌, ℕ, All, arith, slice_index_or, subst, sym, below_more, refl}
 use Rattle.std.proofs.lemmas.Bool.{false≢true}
 use Rattle.std.specs.Int.{bit_at}
-use Rattle.halfspace.proofs.SlackLaws.{default_same}
+use Rattle.lists.proofs.Contained.{any_default}
 use Rattle.halfspace.proofs.choices.some_has_all.Goals as goal
 
 pub returns-then-has_all : goal.returns-then-has_all
@@ -11,7 +11,7 @@ returns-then-has_all g c = (
     c.loop-set.set-index,
     slice_index_or c.args.sets.now c.loop-set.set-index 0,
     c.loop-set-test.true,
-    default_same c.args.sets.now c.loop-set.set-index (slice_index_or c.args.sets.now c.loop-set.set-index 0) 0 c.loop-set-test.true,
+    any_default c.args.sets.now c.loop-set.set-index (slice_index_or c.args.sets.now c.loop-set.set-index 0) 0 c.loop-set-test.true,
     c.has_all.ensures.0 c.if-has_all.true,
   ),
   λ _. refl,
@@ -24,5 +24,5 @@ pub returns : goal.returns
 returns g c = (
   λ e. absurd (false≢true e),
   λ a. absurd (c.loop-set.invariant a.0 (omega arith)
-      (subst (λ (m : ℕ). All (λ i. bit_at m i ≡ 1) c.args.choice.now) (sym a.3 ∙ default_same c.args.sets.now a.0 a.1 0 a.2) a.4)),
+      (subst (λ (m : ℕ). All (λ i. bit_at m i ≡ 1) c.args.choice.now) (sym a.3 ∙ any_default c.args.sets.now a.0 a.1 0 a.2) a.4)),
 )

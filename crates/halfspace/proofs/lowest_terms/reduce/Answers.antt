@@ -1,5 +1,6 @@
 -- Zeros stay; else each number is divided by the greatest common divisor.
-use Rattle.std.proofs.Common.{◌∷◌, ◌∙◌, ◌≡◌, ◌^◌, ◌*ℤ◌, ℕ, ℤ, List, nat_abs, pos, ap, sym, subst, arith, length-set, get_or-set_other, get_or-set_same, below_more, ◌≢◌, lit<, to_z, of_z, w64}
+use Rattle.std.proofs.Common.{◌∷◌, ◌∙◌, ◌≡◌, ◌^◌, ◌*ℤ◌, ℕ, ℤ, List, nat_abs, pos, ap, sym, subst, arith, length-set, get_or-set_other}
+use Rattle.std.proofs.Common.{get_or-set_same, below_more, ◌≢◌, lit<, to_z, of_z, w64}
 use Rattle.std.proofs.lemmas.Int.{to_z-of_z}
 use Rattle.std.specs.Int.{◌∣◌}
 use Rattle.std.proofs.lemmas.List.Elements.{All-head}
@@ -29,7 +30,8 @@ quotient-requires-clause-divides g c =
 pub quotient-requires-2-clause-divides : goal.quotient-requires-2-clause-divides
 quotient-requires-2-clause-divides g c =
     subst (λ (x : ℤ). c.divisor_of-divisor.result ∣ nat_abs x) (sym (small-back (2 ^ 40) c.args.half.bound (lit< tt) c.requires.constant))
-    (All-head (λ x. c.divisor_of-divisor.result ∣ nat_abs x) c.args.half.bound c.args.half.normal (same_bound c.args.half.bound c.args.half.normal c.divisor_of-divisor.result c.requires.constant c.divisor_of-divisor.ensures.greatest).divides)
+    (All-head (λ x. c.divisor_of-divisor.result ∣ nat_abs x) c.args.half.bound c.args.half.normal
+    (same_bound c.args.half.bound c.args.half.normal c.divisor_of-divisor.result c.requires.constant c.divisor_of-divisor.ensures.greatest).divides)
 
 pub loop-i-preserved : goal.loop-i-preserved
 loop-i-preserved g c =
@@ -38,7 +40,8 @@ loop-i-preserved g c =
       below_more _ _
           (λ k q. let ne : k ≢ c.loop-i.i = omega arith in rw get_or-set_other (c.loop-i.invariant.1 k q))
           (sym (AreSmall-back (2 ^ 40) c.args.half.normal (lit< tt) c.requires.coefficients c.loop-i.i) ∙ c.quotient.ensures
-          ∙ ap (λ (z : ℤ). pos c.divisor_of-divisor.result *ℤ z) (sym (get_or-set_same c.loop-i.normal c.loop-i.i (to_z w64 (of_z w64 c.quotient.result)) (pos 0) (omega arith) ∙ back))),
+          ∙ ap (λ (z : ℤ). pos c.divisor_of-divisor.result *ℤ z)
+          (sym (get_or-set_same c.loop-i.normal c.loop-i.i (to_z w64 (of_z w64 c.quotient.result)) (pos 0) (omega arith) ∙ back))),
     )
 
 pub returns : goal.returns

@@ -11,7 +11,8 @@ returns-clause-held g c =
 
 pub returns-clause-refused : goal.returns-clause-refused
 returns-clause-refused g c =
-    table_refused (g.S.Shelf.files c.args.shelf.now) c.args.name.now (table_in c.in_ok-table.table) c.certify_any.result c.in_ok-table.ensures.held c.certify_any.ensures.refused
+    table_refused (g.S.Shelf.files c.args.shelf.now) c.args.name.now (table_in c.in_ok-table.table) c.certify_any.result c.in_ok-table.ensures.held
+        c.certify_any.ensures.refused
 
 pub returns-clause-kinds : goal.returns-clause-kinds
 returns-clause-kinds g c = table_kinds (table_in c.in_ok-table.table) c.certify_any.result c.certify_any.ensures.refused
@@ -21,4 +22,5 @@ returns-clause-blamed g c = table_blames (table_in c.in_ok-table.table) c.certif
 
 pub returns-clause-missing : goal.returns-clause-missing
 returns-clause-missing g c = λ sound.
-    table_missing (table_in c.in_ok-table.table) c.certify_any.result (bytes_of (g.S.Shelf.files c.args.shelf.now) c.args.name.now ≡ None) c.certify_any.ensures.refused
+    table_missing (table_in c.in_ok-table.table) c.certify_any.result (bytes_of (g.S.Shelf.files c.args.shelf.now) c.args.name.now ≡ None)
+        c.certify_any.ensures.refused

@@ -1,5 +1,6 @@
 use Rattle.std.proofs.Common.{◌≡◌, ℕ, ◌<◌, slice_index, length}
-use Rattle.iso_model.specs.Cells.{edge_in_facet, is_set}
+use Rattle.iso_model.specs.Cells.{edge_in_facet}
+use Rattle.lists.specs.Bits.{is_set}
 use Rattle.label_rules.proofs.lists.facets_of.Given as goal
 
 -- the facets so far

@@ -1,5 +1,5 @@
 use Rattle.std.proofs.Common.{◌≡◌, ℕ, ◌<◌, get_or, true}
-use Rattle.iso_model.specs.Orders.{has}
+use Rattle.lists.specs.Orders.{has}
 use Rattle.mesh_laws.proofs.face.has_face.Given as goal
 
 abbrev pub invariant-loop-number : goal.invariant-loop-number

@@ -1,5 +1,5 @@
 use Rattle.std.proofs.Common.{◌≡◌, drop}
-use Rattle.iso_model.specs.Orders.{is_distinct}
+use Rattle.lists.specs.Orders.{is_distinct}
 use Rattle.mesh_laws.proofs.face.is_distinct.Given as goal
 
 abbrev pub invariant-loop-i : goal.invariant-loop-i

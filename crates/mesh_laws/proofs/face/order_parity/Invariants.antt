@@ -1,5 +1,5 @@
 use Rattle.std.proofs.Common.{◌≡◌, ◌+◌, ◌%◌, ◌<◌, drop}
-use Rattle.iso_model.specs.Orders.{inversions}
+use Rattle.lists.specs.Orders.{inversions}
 use Rattle.mesh_laws.proofs.face.order_parity.Given as goal
 
 abbrev pub invariant-loop-i : goal.invariant-loop-i

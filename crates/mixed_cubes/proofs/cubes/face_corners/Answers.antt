@@ -2,7 +2,7 @@ use Rattle.std.proofs.Common.{◌≡◌, ◌*◌, ◌∷◌, ◌≤◌, ℕ, ap,
 use Rattle.std.proofs.Math.Nat.{mul-le-mul_left}
 use Rattle.iso_model.specs.Values.{product}
 use Rattle.grid_split.proofs.CubeNumbers.{put_length, put_next}
-use Rattle.mixed_cubes.specs.Faces.{corner_number as corner_number_of}
+use Rattle.mixed_cubes.specs.CubeFaces.{corner_number as corner_number_of}
 use Rattle.mixed_cubes.proofs.AxisSteps.{parts}
 use Rattle.mixed_cubes.proofs.cubes.face_corners.Goals as goal
 
@@ -18,11 +18,17 @@ few n m l p q h a whole b =
 pub overflow_mul-steps : goal.overflow_mul-steps
 overflow_mul-steps c =
     let p = parts c.args.size c.args.others.now c.requires.sized in
-    omega (arith, few c.args.size c.corner_number.result (length c.args.others.now) (product c.args.others.now) (product (c.args.size ∷ c.args.others.now)) c.corner_number.ensures.below c.requires.axes p.whole c.requires.few)
+    omega
+        (
+          arith,
+          few c.args.size c.corner_number.result (length c.args.others.now) (product c.args.others.now) (product (c.args.size ∷ c.args.others.now))
+              c.corner_number.ensures.below c.requires.axes p.whole c.requires.few
+        )
 
 pub loop-corner-preserved : goal.loop-corner-preserved
 loop-corner-preserved c = (
   put_length c.loop-corner.steps c.loop-corner.corner 8 (c.args.size * c.corner_number.result) c.loop-corner.invariant.0,
-  put_next (λ k. c.args.size * corner_number_of c.args.others.now k) c.loop-corner.steps c.loop-corner.corner 8 (c.args.size * c.corner_number.result) c.loop-corner.invariant.0 c.loop-corner-test.true c.loop-corner.invariant.1
+  put_next (λ k. c.args.size * corner_number_of c.args.others.now k) c.loop-corner.steps c.loop-corner.corner 8 (c.args.size * c.corner_number.result)
+      c.loop-corner.invariant.0 c.loop-corner-test.true c.loop-corner.invariant.1
       (ap (λ (m : ℕ). c.args.size * m) c.corner_number.ensures.number),
 )

@@ -1,6 +1,6 @@
 use Rattle.std.proofs.Common.{◌≡◌, ℕ, ◌*◌, ◌<◌, length}
 use Rattle.std.specs.Prelude.{slice_index}
-use Rattle.mixed_cubes.specs.Faces.{corner_number as corner_number_of}
+use Rattle.mixed_cubes.specs.CubeFaces.{corner_number as corner_number_of}
 use Rattle.mixed_cubes.proofs.cubes.face_corners.Given as goal
 
 abbrev pub invariant-loop-corner : goal.invariant-loop-corner

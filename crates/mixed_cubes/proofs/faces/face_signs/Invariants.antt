@@ -1,6 +1,6 @@
 use Rattle.std.proofs.Common.{◌≡◌, not, int_le, take}
 use Rattle.std.specs.List.{list_any}
-use Rattle.mixed_cubes.specs.Faces.{face_samples}
+use Rattle.mixed_cubes.specs.CubeFaces.{face_samples}
 use Rattle.mixed_cubes.proofs.faces.face_signs.Given as goal
 
 abbrev pub invariant-loop-step : goal.invariant-loop-step

@@ -1,6 +1,6 @@
 use Rattle.std.proofs.Common.{◌≡◌, ◌∙◌, ◌+◌, take, arith, rules, sym, ap}
 use Rattle.std.proofs.lemmas.List.{take_rest}
-use Rattle.iso_model.specs.HeaderLines.{trimmed}
+use Rattle.iso_formats.specs.HeaderLines.{trimmed}
 use Rattle.nrrd_raw.proofs.ContentLaws.{content-unreadable, content-named}
 use Rattle.nrrd_raw.proofs.content.content_of.Goals as goal
 

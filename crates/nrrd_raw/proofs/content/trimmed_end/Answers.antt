@@ -1,7 +1,7 @@
 use Rattle.std.proofs.Common.{◌≡◌, ◌<◌, ◌-◌, false, slice_index, length, take, arith, sym, ap, ◌∙◌}
 use Rattle.std.specs.List.{suffix_len}
-use Rattle.iso_model.specs.HeaderLines.{is_blank}
-use Rattle.nrrd_raw.proofs.PlaceLaws.{suffix_len_is}
+use Rattle.iso_formats.specs.HeaderLines.{is_blank}
+use Rattle.nrrd_raw.proofs.PlaceOfLines.{suffix_len_is}
 use Rattle.nrrd_raw.proofs.content.trimmed_end.Goals as goal
 use Rattle.nrrd_raw.proofs.content.trimmed_end.Goals.{then-loop-end-test+else-is_blank, else-loop-end-test}
 

@@ -1,6 +1,6 @@
 use Rattle.std.proofs.Common.{◌≡◌, ◌≤◌}
 use Rattle.std.specs.Io.KnownBytes.{Consumes}
-use Rattle.nrrd_raw.specs.Fronts.{FitsFirst}
+use Rattle.nrrd_raw.specs.HeaderFronts.{FitsFirst}
 use Rattle.nrrd_raw.proofs.fronts.take_first_line.Given as goal
 
 abbrev pub invariant-places : goal.invariant-places

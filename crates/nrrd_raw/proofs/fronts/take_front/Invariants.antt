@@ -1,6 +1,6 @@
 use Rattle.std.proofs.Common.{◌≡◌, ◌≤◌, ◌-◌, length}
 use Rattle.std.specs.Io.KnownBytes.{Consumes}
-use Rattle.nrrd_raw.specs.Fronts.{HasFront}
+use Rattle.nrrd_raw.specs.HeaderFronts.{HasFront}
 use Rattle.nrrd_raw.proofs.fronts.take_front.Given as goal
 
 abbrev pub invariant-bytes : goal.invariant-bytes

@@ -1,6 +1,6 @@
 use Rattle.std.proofs.Common.{◌≡◌, nat_eq, true, slice_index, length, arith}
 use Rattle.std.proofs.lemmas.Bool.Decides.{nat_tests}
-use Rattle.nrrd_raw.proofs.PlaceLaws.{first_from}
+use Rattle.nrrd_raw.proofs.PlaceOfLines.{first_from}
 use Rattle.nrrd_raw.proofs.lines.feed_from.Goals as goal
 
 pub returns-then-bytes-at-eq10-clause-first : goal.returns-then-bytes-at-eq10-clause-first
@@ -11,4 +11,5 @@ returns-then-bytes-at-eq10-clause-first c =
 pub returns-clause-first : goal.returns-clause-first
 returns-clause-first c =
     let all : c.loop-at.at ≡ length c.args.bytes.now = omega arith in
-    first_from (nat_eq 10) c.args.bytes.now c.args.from (length c.args.bytes.now) (omega arith) (omega arith) (rw all at c.loop-at.invariant) (λ h. absurd (omega arith))
+    first_from (nat_eq 10) c.args.bytes.now c.args.from (length c.args.bytes.now) (omega arith) (omega arith) (rw all at c.loop-at.invariant)
+        (λ h. absurd (omega arith))

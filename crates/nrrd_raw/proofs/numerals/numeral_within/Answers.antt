@@ -17,5 +17,7 @@ loop-at-preserved c =
     let digit : digit_value (slice_index c.args.text.now c.loop-at.at) ≡ c.from.result = omega (arith, v, c.from.ensures) in
     record {
       digits = digits-more c.args.text.now c.loop-at.at c.loop-at-test.true c.loop-at.invariant.digits d;
-      value = value-more c.args.text.now c.loop-at.at c.loop-at.value c.from.result (c.args.high + 1) c.min-value.result c.loop-at-test.true c.loop-at.invariant.value digit c.min-value.ensures;
+      value =
+          value-more c.args.text.now c.loop-at.at c.loop-at.value c.from.result (c.args.high + 1) c.min-value.result c.loop-at-test.true
+              c.loop-at.invariant.value digit c.min-value.ensures;
     }

@@ -1,5 +1,5 @@
 use Rattle.std.proofs.Common.{◌≡◌, ◌<◌, ◌≤◌, ◌-◌, false, length, drop, slice_index}
-use Rattle.iso_model.specs.HeaderLines.{is_blank, words_of}
+use Rattle.iso_formats.specs.HeaderLines.{is_blank, words_of}
 use Rattle.nrrd_raw.specs.Shapes.{HasShape, AreSizes}
 use Rattle.nrrd_raw.proofs.SizeLaws.{ReadsWords}
 use Rattle.nrrd_raw.proofs.numerals.sizes_of.Given as goal

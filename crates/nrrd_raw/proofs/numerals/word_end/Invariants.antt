@@ -1,5 +1,5 @@
 use Rattle.std.proofs.Common.{◌≡◌, ℕ, ◌<◌, false, slice_index}
-use Rattle.iso_model.specs.HeaderLines.{is_blank}
+use Rattle.iso_formats.specs.HeaderLines.{is_blank}
 use Rattle.nrrd_raw.proofs.numerals.word_end.Given as goal
 
 abbrev pub invariant-loop-at : goal.invariant-loop-at

@@ -12,9 +12,12 @@ returns-clause-taken g c =
     let header = c.in_ok-header.header in
     elim (cases_lt (2 ^ 27) (product header.sizes)) [
       | inl large ↦
-          subst (λ (now : Option (List ℕ)). TakesAtMost (2 ^ 29 + 65537) (g.S.Shelf.rest c.args.shelf.now) now) (sym (ap g.S.Shelf.rest (c.read_samples.ensures.untouched large)))
+          subst (λ (now : Option (List ℕ)). TakesAtMost (2 ^ 29 + 65537) (g.S.Shelf.rest c.args.shelf.now) now)
+              (sym (ap g.S.Shelf.rest (c.read_samples.ensures.untouched large)))
           (TakesAtMost-more 65536 (2 ^ 29 + 65537) _ _ c.read_header.ensures.taken (omega arith))
-      | inr few ↦ TakesAtMost-grid (product header.sizes) header.width _ _ _ c.read_header.ensures.taken c.read_samples.ensures.taken few c.in_ok-header.ensures.regular.wide
+      | inr few ↦
+          TakesAtMost-grid (product header.sizes) header.width _ _ _ c.read_header.ensures.taken c.read_samples.ensures.taken few
+              c.in_ok-header.ensures.regular.wide
     ]
 
 pub returns-in_err-header-clause-cause : goal.returns-in_err-header-clause-cause
@@ -23,7 +26,11 @@ returns-in_err-header-clause-cause g c =
     rw (p.1, p.2) (grid-header_fault (g.S.Shelf.rest c.args.shelf.now) c.in_err-header.field-0.0 c.in_err-header.ensures.cause)
 
 pub returns-clause-spelled : goal.returns-clause-spelled
-returns-clause-spelled g c = grid-read c.read_samples.result (g.S.Shelf.rest c.args.shelf.now) _ c.in_ok-header.header c.in_ok-header.ensures.read c.read_samples.ensures.spelled
+returns-clause-spelled g c =
+    grid-read c.read_samples.result (g.S.Shelf.rest c.args.shelf.now) _ c.in_ok-header.header c.in_ok-header.ensures.read
+        c.read_samples.ensures.spelled
 
 pub returns-clause-cause : goal.returns-clause-cause
-returns-clause-cause g c = grid-samples_fault c.read_samples.result (g.S.Shelf.rest c.args.shelf.now) _ c.in_ok-header.header c.in_ok-header.ensures.read c.read_samples.ensures.cause
+returns-clause-cause g c =
+    grid-samples_fault c.read_samples.result (g.S.Shelf.rest c.args.shelf.now) _ c.in_ok-header.header c.in_ok-header.ensures.read
+        c.read_samples.ensures.cause

@@ -5,7 +5,8 @@ use Rattle.nrrd_raw.proofs.reading.read_samples.Goals as goal
 
 pub returns-then-count-gt-SAMPLE_LIMIT-clause-cause :
     goal.returns-then-count-gt-SAMPLE_LIMIT-clause-cause
-returns-then-count-gt-SAMPLE_LIMIT-clause-cause g c = HasSampleFault-too_large c.args.header.now _ c.sample_count-count.result (omega arith) c.sample_count-count.ensures
+returns-then-count-gt-SAMPLE_LIMIT-clause-cause g c =
+    HasSampleFault-too_large c.args.header.now _ c.sample_count-count.result (omega arith) c.sample_count-count.ensures
 
 pub returns-in_err-samples-clause-cause : goal.returns-in_err-samples-clause-cause
 returns-in_err-samples-clause-cause g c =

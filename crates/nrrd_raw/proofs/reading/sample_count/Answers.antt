@@ -1,6 +1,6 @@
 use Rattle.std.proofs.Common.{◌≤◌, length, rules, sym, ap, ◌∙◌, subst, List, ℕ}
 use Rattle.iso_model.specs.Values.{product}
-use Rattle.iso_model.specs.GridFile.{Header}
+use Rattle.iso_formats.specs.GridFile.{Header}
 use Rattle.nrrd_raw.specs.Shapes.{AreSizes}
 use Rattle.nrrd_raw.proofs.Counts.{counts}
 use Rattle.nrrd_raw.proofs.reading.sample_count.Goals as goal

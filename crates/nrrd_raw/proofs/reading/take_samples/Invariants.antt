@@ -1,5 +1,5 @@
 use Rattle.std.proofs.Common.{◌≡◌, ◌≤◌, ◌-◌, ◌*◌, vec_len, All}
-use Rattle.nrrd_raw.specs.Causes.{ReadsSamples}
+use Rattle.nrrd_raw.specs.FaultCauses.{ReadsSamples}
 use Rattle.nrrd_raw.specs.Shapes.{InRange}
 use Rattle.nrrd_raw.specs.Taken.{TakesAtMost}
 use Rattle.nrrd_raw.proofs.reading.take_samples.Given as goal

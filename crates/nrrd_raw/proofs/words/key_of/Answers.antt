@@ -1,7 +1,7 @@
 use Rattle.std.proofs.Common.{ℕ, List, sym, ap, ◌∙◌}
 use Rattle.std.specs.List.{list_any}
-use Rattle.iso_model.specs.Orders.{same_list}
-use Rattle.iso_model.specs.HeaderLines.{skip_names, data_file_names}
+use Rattle.lists.specs.Orders.{same_list}
+use Rattle.iso_formats.specs.HeaderLines.{skip_names, data_file_names}
 use Rattle.nrrd_raw.proofs.WordLaws.{lower-lower}
 use Rattle.nrrd_raw.proofs.words.key_of.Goals as goal
 

@@ -1,6 +1,6 @@
 use Rattle.std.proofs.Common.{◌≡◌, ◌+◌, ◌*◌, ◌≤◌, ◌∷◌, ◌++◌, length, take}
 use Rattle.std.specs.List.{flat_map}
-use Rattle.iso_model.specs.MeshText.{millionths}
+use Rattle.iso_formats.specs.MeshText.{millionths}
 use Rattle.off_write.proofs.lines.push_rest.Given as goal
 
 abbrev pub invariant-loop-coordinate : goal.invariant-loop-coordinate

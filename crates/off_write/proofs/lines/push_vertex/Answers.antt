@@ -1,5 +1,5 @@
 use Rattle.std.proofs.Common.{rules, ap, ◌≡◌, ◌∷◌, ◌<◌, ◌-◌, length, map, take, drop, append_assoc, to_z-of_z, FitsSigned, w64, get_or, pos}
-use Rattle.iso_model.specs.MeshText.{millionths}
+use Rattle.iso_formats.specs.MeshText.{millionths}
 use Rattle.off_write.proofs.Texts.{line_of_map, first_and_rest}
 use Rattle.off_write.proofs.lines.push_vertex.Goals as goal
 
@@ -11,4 +11,16 @@ returns g c =
     let fits : FitsSigned w64 (get_or c.args.vertex.now 0 (pos 0)) = search rules in
     let some : 0 < length c.args.vertex.now = search rules in
     let all : map millionths c.args.vertex.now ≡ millionths first ∷ map millionths rest = ap (map millionths) (first_and_rest v (pos 0) some) in
-    record { text = rw (all, line_of_map millionths (millionths first) rest, c.push.ensures, c.push_rest.ensures.text, c.push_coordinate.ensures.text, to_z-of_z fits) (simp append_assoc) }
+    record
+        {
+          text = rw
+              (
+                all,
+                line_of_map millionths (millionths first) rest,
+                c.push.ensures,
+                c.push_rest.ensures.text,
+                c.push_coordinate.ensures.text,
+                to_z-of_z fits
+              )
+              (simp append_assoc)
+        }

@@ -13,13 +13,18 @@ map_one_more f xs k h = ap (map f) (take_more xs k 0 h) ∙ map-append f (take k
 
 pub returns-then-set-eq0 : goal.returns-then-set-eq0
 returns-then-set-eq0 g t c =
-    subst (λ (s : List ℕ). AddsPulled (Contains (map point_set c.args.facets.now)) g.row.D (take c.args.filled c.args.firsts.now) s c.args.simplices.now.items c.args.simplices.now.items)
+    subst
+    (λ (s : List ℕ).
+    AddsPulled (Contains (map point_set c.args.facets.now)) g.row.D (take c.args.filled c.args.firsts.now) s c.args.simplices.now.items
+    c.args.simplices.now.items)
     (sym (ap point_set c.if-set-eq0.true ∙ points-none)) (none_from_none _ _ _ _)
 
 pub returns-in-Ok : goal.returns-in-Ok
 returns-in-Ok g t c =
-    point_put _ g.row.D c.args.firsts.now c.with_next-longer.result c.args.filled c.first_point.result (point_set c.args.set) c.args.simplices.now.items c.push.new.self.items
-    c.told-firsts c.if-filled.true c.with_next-longer.ensures.len c.with_next-longer.ensures.more c.first_point.ensures.least (c.is_point.ensures.0 c.if-is_point.true) c.in-Ok.ensures.items
+    point_put _ g.row.D c.args.firsts.now c.with_next-longer.result c.args.filled c.first_point.result (point_set c.args.set)
+    c.args.simplices.now.items c.push.new.self.items
+    c.told-firsts c.if-filled.true c.with_next-longer.ensures.len c.with_next-longer.ensures.more c.first_point.ensures.least
+    (c.is_point.ensures.0 c.if-is_point.true) c.in-Ok.ensures.items
 
 pub returns-then-filled : goal.returns-then-filled
 returns-then-filled g t c =
@@ -31,14 +36,21 @@ loop-face-init g t c = none_below _ _ _ _
 
 pub loop-face-preserved : goal.loop-face-preserved
 loop-face-preserved g t c =
-    subst (λ (sets : List (List ℕ)). AddsBelow (Contains (map point_set c.args.facets.now)) g.row.D (take (c.args.filled + 1) c.with_next-longer.result) sets c.args.simplices.now.items c.go_on.new.simplices.items)
+    subst
+    (λ (sets : List (List ℕ)).
+    AddsBelow (Contains (map point_set c.args.facets.now)) g.row.D (take (c.args.filled + 1) c.with_next-longer.result) sets
+    c.args.simplices.now.items c.go_on.new.simplices.items)
     (sym (map_one_more point_set c.deref-face-items.result.now c.loop-face.face-index c.loop-face-test.true))
     (one_more_below _ _ _ _ _ _ c.loop-face.simplices.items _ c.loop-face.invariant c.in_ok-go_on.ensures)
 
 pub returns : goal.returns
 returns g t c =
-    let all : take c.loop-face.face-index c.deref-face-items.result.now ≡ c.deref-face-items.result.now = take_all c.loop-face.face-index c.deref-face-items.result.now (omega arith) in
-    all_put _ g.row.D c.args.firsts.now c.with_next-longer.result c.args.filled c.first_point.result (point_set c.args.set) (map point_set c.in_ok-faces.faces.items) c.args.simplices.now.items
-    c.loop-face.simplices.items c.told-firsts (omega (arith, c.requires.room, c.if-filled.false)) c.with_next-longer.ensures.more c.first_point.ensures.least c.in_ok-faces.ensures
-    (subst (λ (xs : List ℕ). AddsBelow (Contains (map point_set c.args.facets.now)) g.row.D (take (c.args.filled + 1) c.with_next-longer.result) (map point_set xs) c.args.simplices.now.items c.loop-face.simplices.items)
+    let all : take c.loop-face.face-index c.deref-face-items.result.now ≡ c.deref-face-items.result.now =
+    take_all c.loop-face.face-index c.deref-face-items.result.now (omega arith) in
+    all_put _ g.row.D c.args.firsts.now c.with_next-longer.result c.args.filled c.first_point.result (point_set c.args.set)
+    (map point_set c.in_ok-faces.faces.items) c.args.simplices.now.items
+    c.loop-face.simplices.items c.told-firsts (omega (arith, c.requires.room, c.if-filled.false)) c.with_next-longer.ensures.more
+    c.first_point.ensures.least c.in_ok-faces.ensures
+    (subst (λ (xs : List ℕ). AddsBelow (Contains (map point_set c.args.facets.now)) g.row.D (take (c.args.filled + 1) c.with_next-longer.result)
+    (map point_set xs) c.args.simplices.now.items c.loop-face.simplices.items)
     (all ∙ c.deref-face-items.ensures.value) c.loop-face.invariant)

@@ -10,4 +10,5 @@ decreases-go_on g l = g.row.D - l.filled
 -- the simplices of the chains through the faces so far are added
 abbrev pub invariant-loop-face : goal.invariant-loop-face
 invariant-loop-face g l =
-    AddsBelow (Contains (map point_set l.facets)) g.row.D (take (l.filled + 1) l.longer) (map point_set (take l.face-index l.face-items)) l.initial.simplices.items l.simplices.items
+    AddsBelow (Contains (map point_set l.facets)) g.row.D (take (l.filled + 1) l.longer) (map point_set (take l.face-index l.face-items))
+    l.initial.simplices.items l.simplices.items

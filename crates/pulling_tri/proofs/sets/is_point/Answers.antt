@@ -1,5 +1,5 @@
-use Rattle.iso_model.proofs.Deciding.{equal_of, of_equal}
 use Rattle.pulling_tri.proofs.PointSetLaws.{shift-point, point-shift}
+use Rattle.lists.proofs.Tests.{equal_of, of_equal}
 use Rattle.pulling_tri.proofs.sets.is_point.Goals as goal
 
 pub returns : goal.returns

@@ -16,5 +16,8 @@ loop-facet-preserved g c =
       each = λ f x h.
           each_more (λ k z. IsFacetOf g.C.Cell.KIND g.row.D k z) xs ys y e (λ k z less. c.loop-facet.invariant.each k z (omega arith))
           (subst (λ k. IsFacetOf g.C.Cell.KIND g.row.D k y) (sym n) c.in_ok-facet_of.ensures.is_facet) f x (omega arith);
-      never = λ k d less. each_more (λ _ z. (p : ℕ) → seen_at z p ≡ Never) xs ys y e (λ f x h. c.loop-facet.invariant.never f x h) c.in_ok-facet_of.ensures.never k d (let w = length_more xs ys y e in omega arith);
+      never =
+          λ k d less.
+              each_more (λ _ z. (p : ℕ) → seen_at z p ≡ Never) xs ys y e (λ f x h. c.loop-facet.invariant.never f x h) c.in_ok-facet_of.ensures.never
+                  k d (let w = length_more xs ys y e in omega arith);
     }

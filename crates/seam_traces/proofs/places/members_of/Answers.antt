@@ -1,6 +1,7 @@
 use Rattle.std.proofs.Common.{true, false, sym, ◌∙◌, ap, ◌++◌, ◌∷◌, []}
-use Rattle.seam_traces.proofs.Steps.{members_more, append-nil}
+use Rattle.seam_traces.proofs.GatheredSteps.{members_more}
 use Rattle.seam_traces.proofs.places.members_of.Goals.{then-has_member+in_ok-push, else-has_member}
+use Rattle.std.proofs.lemmas.List.{append-nil}
 use Rattle.seam_traces.proofs.places.members_of.Goals as goal
 
 pub loop-number-preserved : goal.loop-number-preserved

@@ -1,7 +1,8 @@
 use Rattle.std.proofs.Common.{◌<◌, ◌^◌, true, false, sym, ◌∙◌, arith}
 use Rattle.std.proofs.Math.Pow.{pow-lt}
-use Rattle.seam_traces.proofs.Steps.{places_more, power_more}
+use Rattle.seam_traces.proofs.GatheredSteps.{places_more}
 use Rattle.seam_traces.proofs.places.places_of.Goals.{then-has_member, else-has_member}
+use Rattle.lists.proofs.Bits.{twice_power}
 use Rattle.seam_traces.proofs.places.places_of.Goals as goal
 
 pub loop-place-preserved : goal.loop-place-preserved
@@ -12,12 +13,12 @@ loop-place-preserved c =
       | then-has_member w ↦
           let e = places_more members i c.args.set 0 true c.loop-place-test.true (sym w.if-has_member.true ∙ c.has_member.ensures) in
           let small : 2 ^ i < 2 ^ 32 = pow-lt {i = i} {j = 32} (omega arith) in
-          let more = power_more i in
+          let more = twice_power i in
           let is = w.places-is in
           record { so_far = omega arith; few = omega arith }
       | else-has_member w ↦
           let e = places_more members i c.args.set 0 false c.loop-place-test.true (sym w.if-has_member.false ∙ c.has_member.ensures) in
-          let more = power_more i in
+          let more = twice_power i in
           let is = w.places-is in
           record { so_far = omega arith; few = omega arith }
     ]

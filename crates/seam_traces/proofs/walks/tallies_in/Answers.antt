@@ -1,8 +1,9 @@
 use Rattle.std.proofs.Common.{true, false, sym, ◌∙◌, ap, ◌++◌, ◌∷◌, [], get_or}
 use Rattle.face_tallies.specs.declared.faces.FaceTally.{FaceTally}
-use Rattle.seam_traces.specs.Tallies.{placed}
-use Rattle.seam_traces.proofs.Steps.{tallies_more, append-nil, blank}
+use Rattle.seam_traces.specs.TallyLists.{placed}
+use Rattle.seam_traces.proofs.GatheredSteps.{tallies_more, blank}
 use Rattle.seam_traces.proofs.walks.tallies_in.Goals.{then-lies_in+in_ok-push, else-lies_in}
+use Rattle.std.proofs.lemmas.List.{append-nil}
 use Rattle.seam_traces.proofs.walks.tallies_in.Goals as goal
 
 pub loop-tally-preserved : goal.loop-tally-preserved

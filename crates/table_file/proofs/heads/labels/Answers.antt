@@ -1,5 +1,5 @@
 use Rattle.std.proofs.Common.{arith, ap, ◌∙◌, ◌*◌, ◌^◌, ◌%◌}
-use Rattle.table_file.proofs.Rows.{small_counts}
+use Rattle.table_file.proofs.TupleRows.{small_counts}
 use Rattle.table_file.proofs.heads.labels.Goals as goal
 
 pub overflow_shl-result : goal.overflow_shl-result

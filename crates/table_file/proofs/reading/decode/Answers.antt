@@ -12,4 +12,5 @@ pub returns-in_ok-read_table-in-3-clause-same : goal.returns-in_ok-read_table-in
 returns-in_ok-read_table-in-3-clause-same c = λ t s. spelled_once c.args.bytes.now c.in_ok-read_table-in-3.field-0 t c.in_ok-read_table-in-3.ensures.table s
 
 pub returns-in_ok-read_table-in_default-clause-same : goal.returns-in_ok-read_table-in_default-clause-same
-returns-in_ok-read_table-in_default-clause-same c = λ t s. spelled_once c.args.bytes.now c.in_ok-read_table-in_default.field-0 t c.in_ok-read_table-in_default.ensures.table s
+returns-in_ok-read_table-in_default-clause-same c =
+    λ t s. spelled_once c.args.bytes.now c.in_ok-read_table-in_default.field-0 t c.in_ok-read_table-in_default.ensures.table s

@@ -1,5 +1,5 @@
 use Rattle.std.proofs.Common.{◌≡◌, take}
-use Rattle.iso_model.specs.TableFile.{table_bytes}
+use Rattle.iso_formats.specs.TableFile.{table_bytes}
 use Rattle.table_file.proofs.Progress.{table_of}
 use Rattle.table_file.proofs.writing.encode.Given as goal
 

@@ -20,4 +20,13 @@ returns c =
     let map = agree 11 (λ n. (written n).map) (λ n. padded 8 (met_corners Pyramid 3 (seam_at Pyramid 3 n))) refl c.args.number c.requires in
     let same = agree 11 (λ n. (written n).same) (λ n. (seam_at Pyramid 3 n).same_parity) refl c.args.number c.requires in
     let range = seam_in_range Pyramid 3 (inr (inl refl)) refl c.args.number c.requires in
-    record { facet = facet; other = other; size = size; map = map; same = same; facets = (rw facet range.facet, rw other range.other); places = rw size range.size; corners = λ i h. rw map (range.corners i h) }
+    record {
+      facet = facet;
+      other = other;
+      size = size;
+      map = map;
+      same = same;
+      facets = (rw facet range.facet, rw other range.other);
+      places = rw size range.size;
+      corners = λ i h. rw map (range.corners i h);
+    }

@@ -1,7 +1,7 @@
 use Rattle.std.proofs.Common.{◌≡◌}
-use Rattle.iso_model.specs.Cells.{is_set}
 use Rattle.iso_model.specs.Splits.{corner_offset}
-use Rattle.cube_cells.specs.Points.{set_of, point_number}
+use Rattle.cube_cells.specs.CubePoints.{set_of, point_number}
+use Rattle.lists.specs.Bits.{is_set}
 use Rattle.cube_cells.proofs.cubes.SignedCube.label.Given as goal
 
 abbrev pub invariant-loop-corner : goal.invariant-loop-corner

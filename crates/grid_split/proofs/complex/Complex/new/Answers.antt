@@ -22,7 +22,12 @@ loop-axis-preserved g c =
     record {
       spans_long = put_length c.loop-axis.spans c.loop-axis.axis g.row.D (slice_index_or c.args.sizes c.loop-axis.axis 0 - 1) c.loop-axis.invariant.spans_long;
       strides_long = put_length c.loop-axis.strides c.loop-axis.axis g.row.D c.loop-axis.cubes c.loop-axis.invariant.strides_long;
-      spans = put_next (λ i. slice_index_or c.args.sizes i 0 - 1) c.loop-axis.spans c.loop-axis.axis g.row.D (slice_index_or c.args.sizes c.loop-axis.axis 0 - 1) c.loop-axis.invariant.spans_long c.loop-axis-test.true c.loop-axis.invariant.spans (search rules);
-      strides = put_next (λ i. cube_count (take i c.args.sizes)) c.loop-axis.strides c.loop-axis.axis g.row.D c.loop-axis.cubes c.loop-axis.invariant.strides_long c.loop-axis-test.true c.loop-axis.invariant.strides c.loop-axis.invariant.cubes;
+      spans =
+          put_next (λ i. slice_index_or c.args.sizes i 0 - 1) c.loop-axis.spans c.loop-axis.axis g.row.D
+          (slice_index_or c.args.sizes c.loop-axis.axis 0 - 1) c.loop-axis.invariant.spans_long c.loop-axis-test.true c.loop-axis.invariant.spans
+          (search rules);
+      strides =
+          put_next (λ i. cube_count (take i c.args.sizes)) c.loop-axis.strides c.loop-axis.axis g.row.D c.loop-axis.cubes
+          c.loop-axis.invariant.strides_long c.loop-axis-test.true c.loop-axis.invariant.strides c.loop-axis.invariant.cubes;
       cubes = rw c.loop-axis.invariant.cubes (sym (cube_count_more c.args.sizes c.loop-axis.axis (omega (arith, long, c.loop-axis-test.true))));
     }

@@ -9,5 +9,8 @@ pub returns : goal.returns
 returns c =
     record {
       shift = pyramid_shift c.args.rank c.args.facet c.requires.rank c.requires.facet;
-      across = subst (λ (n : ℕ × ℕ). IsAcross Pyramid 3 c.args.rank c.args.facet n.0 n.1) (pyramid_next c.args.rank c.args.facet c.requires.rank c.requires.facet) (found_across Pyramid 3 (inr (inl refl)) refl c.args.rank c.args.facet c.requires.rank c.requires.facet);
+      across =
+          subst (λ (n : ℕ × ℕ). IsAcross Pyramid 3 c.args.rank c.args.facet n.0 n.1)
+          (pyramid_next c.args.rank c.args.facet c.requires.rank c.requires.facet)
+          (found_across Pyramid 3 (inr (inl refl)) refl c.args.rank c.args.facet c.requires.rank c.requires.facet);
     }

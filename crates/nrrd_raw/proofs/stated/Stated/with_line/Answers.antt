@@ -1,6 +1,6 @@
 use Rattle.std.proofs.Common.{subst}
 use Rattle.std.specs.Prelude.{IfOk}
-use Rattle.iso_model.specs.HeaderLines.{Content}
+use Rattle.iso_formats.specs.HeaderLines.{Content}
 use Rattle.nrrd_raw.specs.States.{AddsLine}
 use Rattle.nrrd_raw.proofs.StatedLaws.{adds-passed}
 use Rattle.nrrd_raw.proofs.stated.Stated.with_line.Goals as goal

@@ -1,7 +1,7 @@
 use Rattle.std.proofs.Common.{◌≡◌, ◌<◌, ◌^◌, ◌∙◌, sym, ap, subst, length, List, ℕ, arith}
 use Rattle.std.proofs.lemmas.Bool.{false≢true}
 use Rattle.seam_traces.specs.Traces.{places}
-use Rattle.seam_traces.specs.Tallies.{tallies_in}
+use Rattle.seam_traces.specs.TallyLists.{tallies_in}
 use Rattle.seam_traces.specs.Kept.{pattern_on}
 use Rattle.seam_traces.proofs.KeptSteps.{takes_first, takes_other, takes_same, kept_at, across_same}
 use Rattle.seam_traces.proofs.facets.Facet.add.Goals as goal
@@ -24,7 +24,12 @@ returns-then-not-are_across c =
     let in_traces : p < length old.traces.items = let w = c.requires.traces in omega arith in
     let kept = kept_at old p c.index-in-Alike.result.now in_traces c.index-in-Alike.ensures ∙ sym c.deref-in-Alike.ensures.value in
     takes_other c.args.label c.args.tallies.now old p c.index.result.now c.requires less is c.index.ensures c.in-Alike.is
-    (λ e. false≢true (sym c.if-not-are_across.true ∙ c.are_across.ensures.1 (sym kept ∙ e ∙ ap (λ (l : List ℕ). tallies_in l c.args.tallies.now) (sym c.deref-in-Alike-2.ensures.value) ∙ sym (across_same (tallies_in c.deref-in-Alike-2.result.now c.args.tallies.now)))))
+    (λ e.
+         false≢true
+             (sym c.if-not-are_across.true
+                  ∙ c.are_across.ensures.1
+                        (sym kept ∙ e ∙ ap (λ (l : List ℕ). tallies_in l c.args.tallies.now) (sym c.deref-in-Alike-2.ensures.value)
+                             ∙ sym (across_same (tallies_in c.deref-in-Alike-2.result.now c.args.tallies.now)))))
 
 pub returns-else-not-are_across : goal.returns-else-not-are_across
 returns-else-not-are_across c =
@@ -35,4 +40,5 @@ returns-else-not-are_across c =
     let in_traces : p < length old.traces.items = let w = c.requires.traces in omega arith in
     let kept = kept_at old p c.index-in-Alike.result.now in_traces c.index-in-Alike.ensures ∙ sym c.deref-in-Alike.ensures.value in
     takes_same c.args.label c.args.tallies.now old p c.index.result.now c.requires less is c.index.ensures c.in-Alike.is
-    (kept ∙ c.are_across.ensures.0 c.if-not-are_across.false ∙ across_same (tallies_in c.deref-in-Alike-2.result.now c.args.tallies.now) ∙ ap (λ (l : List ℕ). tallies_in l c.args.tallies.now) c.deref-in-Alike-2.ensures.value)
+    (kept ∙ c.are_across.ensures.0 c.if-not-are_across.false ∙ across_same (tallies_in c.deref-in-Alike-2.result.now c.args.tallies.now)
+         ∙ ap (λ (l : List ℕ). tallies_in l c.args.tallies.now) c.deref-in-Alike-2.ensures.value)

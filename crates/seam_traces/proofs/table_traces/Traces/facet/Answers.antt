@@ -1,7 +1,7 @@
 use Rattle.std.proofs.Common.{◌≡◌, ◌<◌, subst, List, slice_index_or}
 use Rattle.iso_model.specs.Cells.{facet_count}
 use Rattle.seam_traces.specs.declared.facets.Facet.{Facet}
-use Rattle.seam_traces.proofs.TableLaws.{sound_read, facet_read}
+use Rattle.seam_traces.proofs.TraceTables.{sound_read, facet_read}
 use Rattle.seam_traces.proofs.table_traces.Traces.facet.Goals as goal
 
 pub returns : goal.returns

@@ -7,7 +7,7 @@ use Rattle.face_tallies.specs.declared.faces.FaceTally.{FaceTally}
 use Rattle.face_tallies.specs.Tallies.{AreTallies}
 use Rattle.seam_traces.specs.declared.facets.Facet.{Facet}
 use Rattle.seam_traces.specs.Kept.{IsSound, AreFacetsOf, EachTakesLabel, TellLabels}
-use Rattle.seam_traces.proofs.TableLaws.{facets_sound, facets_taken, tells_more, tells_none}
+use Rattle.seam_traces.proofs.TraceTables.{facets_sound, facets_taken, tells_more, tells_none}
 use Rattle.seam_traces.proofs.table_traces.Traces.gather.Goals as goal
 
 pub add_label-requires : goal.add_label-requires
@@ -33,13 +33,19 @@ loop-label-preserved g c =
     let new = c.add_label.new.facets in
     let tallies = c.tally.new.tallies.items in
     let takes : EachTakesLabel n tallies old new =
-    subst (λ (ts : List FaceTally). EachTakesLabel n ts old new) c.deref.ensures.value (subst (λ (xs : List Facet). EachTakesLabel n c.deref.result.now xs new) c.deref_mut.ensures.value c.in_ok-add_label.ensures) in
+    subst (λ (ts : List FaceTally). EachTakesLabel n ts old new) c.deref.ensures.value
+        (subst (λ (xs : List Facet). EachTakesLabel n c.deref.result.now xs new) c.deref_mut.ensures.value c.in_ok-add_label.ensures) in
     let are : AreTallies g.row.D (entry_of t n) tallies = subst (λ ws. AreTallies g.row.D ws tallies) c.tuples.ensures.tuples c.in_ok-tally.ensures in
-    let e = with_items_is c.loop-label.facets new (takes.count ∙ ap (λ (xs : List Facet). length xs) (sym c.deref_mut.ensures.value) ∙ c.deref_mut.ensures.len) in
+    let e =
+        with_items_is c.loop-label.facets new
+            (takes.count ∙ ap (λ (xs : List Facet). length xs) (sym c.deref_mut.ensures.value) ∙ c.deref_mut.ensures.len) in
     record {
-      facets = subst (λ xs. AreFacetsOf g.C.Cell.KIND g.row.D xs) (sym e) (facets_taken g.C.Cell.KIND g.row.D n tallies old new c.loop-label.invariant.facets takes);
+      facets =
+          subst (λ xs. AreFacetsOf g.C.Cell.KIND g.row.D xs) (sym e)
+              (facets_taken g.C.Cell.KIND g.row.D n tallies old new c.loop-label.invariant.facets takes);
       labels = subst (λ xs. TellLabels t (n + 1) xs) (sym e)
-          (tells_more g.C.Cell.KIND g.row.D t n tallies old new c.requires c.labels-label-end.ensures.dimension law.is_dimension law.has_dimension c.loop-label.invariant.facets are takes c.loop-label.invariant.labels);
+          (tells_more g.C.Cell.KIND g.row.D t n tallies old new c.requires c.labels-label-end.ensures.dimension law.is_dimension law.has_dimension
+               c.loop-label.invariant.facets are takes c.loop-label.invariant.labels);
     }
 
 pub returns : goal.returns
@@ -48,5 +54,7 @@ returns g c =
     record {
       kind_is = c.requires;
       dimension_is = c.labels-label-end.ensures.dimension;
-      labels = subst (λ n. TellLabels c.args.table.now n c.loop-label.facets.items) (last ∙ c.labels-label-end.ensures.labels ∙ ap (λ (k : Kind). label_count k g.row.D) c.requires) c.loop-label.invariant.labels;
+      labels =
+          subst (λ n. TellLabels c.args.table.now n c.loop-label.facets.items)
+              (last ∙ c.labels-label-end.ensures.labels ∙ ap (λ (k : Kind). label_count k g.row.D) c.requires) c.loop-label.invariant.labels;
     }

@@ -1,6 +1,6 @@
 use Rattle.std.proofs.Common.{◌≡◌, ◌∙◌, sym, length, arith}
 use Rattle.iso_model.specs.Seams.{seams}
-use Rattle.seam_traces.proofs.TableLaws.{keeps_all}
+use Rattle.seam_traces.proofs.TraceTables.{keeps_all}
 use Rattle.seam_traces.proofs.table_traces.Traces.keeps_seams.Goals as goal
 
 pub returns : goal.returns

@@ -1,6 +1,6 @@
 use Rattle.std.proofs.Common.{arith}
 use Rattle.std.proofs.lemmas.List.{length-map}
-use Rattle.table_file.proofs.Rows.{small_counts}
+use Rattle.table_file.proofs.TupleRows.{small_counts}
 use Rattle.table_file.proofs.tables.Table.labels.Goals as goal
 
 pub overflow_cast-result : goal.overflow_cast-result

@@ -1,9 +1,0 @@
-pub mod Steps
-pub mod Orders
-pub mod Triangles
-pub mod Walking
-pub mod WalkStates
-pub mod Leads
-pub mod FacetPairs
-pub mod SharedFaces
-pub mod EachEdge

@@ -1,0 +1,10 @@
+pub mod MeshTests
+pub mod GridFileTests
+pub mod CommandTests
+pub mod TableLaws
+pub mod TableFaultTests
+pub mod HeaderLaws
+pub mod LineLaws
+pub mod HeaderFaultLaws
+pub mod SurfaceTests
+pub mod LineTests

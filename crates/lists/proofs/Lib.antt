@@ -1,0 +1,11 @@
+pub mod Tests
+pub mod Contained
+pub mod MemberLaws
+pub mod Sorting
+pub mod Counts
+pub mod DistinctLists
+pub mod Ascending
+pub mod Orderings
+pub mod Bits
+pub mod Powers
+pub mod Results

@@ -1,0 +1,55 @@
+-- The faults of this crate as causes of the definition.
+use Rattle.std.specs.Prelude.{◌≡◌, ℕ, ◌+◌, ◌*◌, ◌<◌, ◌++◌, ℤ, List, length, Option, Some, None}
+use Rattle.std.specs.Io.KnownBytes.{Consumes, IsAtEnd}
+use Rattle.iso_formats.specs.GridFile as file
+use Rattle.iso_formats.specs.GridFaults as cause
+use Rattle.nrrd_raw.specs.declared.faults.GridFault.{GridFault}
+use Rattle.nrrd_raw.specs.declared.faults.GridFault.TheVariants.{Magic, HeaderLong, HeaderEnd, Line, Repeated, SampleType, Dimension, Sizes, Encoding}
+use Rattle.nrrd_raw.specs.declared.faults.GridFault.TheVariants.{Endian, Skip, Detached, Missing, TooLarge, DataShort, Trailing, Shelf, Memory}
+
+-- the cause that a fault names; a failing shelf and refused memory are none
+abbrev pub cause_of : GridFault → Option cause.GridFault
+cause_of Magic = Some cause.wrong_magic
+cause_of HeaderLong = Some cause.header_too_long
+cause_of HeaderEnd = Some cause.header_unended
+cause_of (Line n) = Some (cause.unreadable_line n)
+cause_of (Repeated n) = Some (cause.repeated_field n)
+cause_of (SampleType n) = Some (cause.wrong_type n)
+cause_of (Dimension n) = Some (cause.wrong_dimension n)
+cause_of (Sizes n) = Some (cause.wrong_sizes n)
+cause_of (Encoding n) = Some (cause.wrong_encoding n)
+cause_of (Endian n) = Some (cause.wrong_endian n)
+cause_of (Skip n) = Some (cause.wrong_skip n)
+cause_of (Detached n) = Some (cause.detached_data n)
+cause_of (Missing field) = Some (cause.missing_field field)
+cause_of (TooLarge count) = Some (cause.sizes_too_large count)
+cause_of (DataShort count) = Some (cause.data_too_short count)
+cause_of Trailing = Some cause.data_trailing
+cause_of (Shelf count) = None
+cause_of Memory = None
+
+-- so many samples were read from the bytes that came
+pub record ReadsSamples (h : file.Header) (old new : Option (List ℕ)) (count : ℕ) (samples : List ℤ) : Type 0 where
+  pub came : List ℕ
+  pub whole : length came ≡ count * h.width
+  pub taken : Consumes old new came
+  pub spelled : samples ≡ file.samples_of h count came
+
+-- so many samples more were read from the bytes that came
+pub record ReadsMore (h : file.Header) (old new : Option (List ℕ)) (more : ℕ) (before after : List ℤ) : Type 0 where
+  pub came : List ℕ
+  pub whole : length came ≡ more * h.width
+  pub taken : Consumes old new came
+  pub spelled : after ≡ before ++ file.samples_of h more came
+
+-- the file ended where bytes for so many samples should come, behind so many others
+abbrev pub IsCutOff : file.Header → Option (List ℕ) → Option (List ℕ) → ℕ → ℕ → GridFault → Type 0
+IsCutOff h old new before more (DataShort count) =
+    (came : List ℕ) × (length came < more * h.width) × (count ≡ before * h.width + length came) × Consumes old new came × IsAtEnd new
+IsCutOff h old new before more fault = Unit {0}
+
+-- fewer or more than so many bytes are there
+abbrev pub IsDataFault : ℕ → Option (List ℕ) → Option (List ℕ) → GridFault → Type 0
+IsDataFault wanted old new (DataShort count) = (came : List ℕ) × (length came ≡ count) × (count < wanted) × Consumes old new came × IsAtEnd new
+IsDataFault wanted old new Trailing = (came : List ℕ) × (length came ≡ wanted + 1) × Consumes old new came
+IsDataFault wanted old new fault = Unit {0}

@@ -1,0 +1,9 @@
+pub mod WalkSteps
+pub mod Orders
+pub mod Triangles
+pub mod Walking
+pub mod WalkStates
+pub mod Leads
+pub mod FacetPairs
+pub mod SharedFaces
+pub mod EachEdge

@@ -1,0 +1,98 @@
+//! The path rule.
+
+ghost use Rattle.std.specs.Prelude.{◌≡◌, ◌≢◌, ℕ, ◌<◌, ◌≤◌, true, false, length, slice_index, All, IfSome, IfNone};
+ghost use Rattle.std.specs.List.{list_any};
+ghost use Rattle.iso_model.specs.declared.Kind.{Kind};
+ghost use Rattle.lists.specs.Orders.{orders_of};
+ghost use Rattle.iso_model.specs.Cells.{edge_count, edge_in_facet};
+ghost use Rattle.iso_model.specs.Tables.{IsTuple};
+ghost use Rattle.iso_model.specs.Acceptance.{rule_edges, rule_faces, rule_path, others_at, leads, is_path};
+ghost use Rattle.edge_sets.specs.Sets.{Suits, SuitsFacets};
+ghost use Rattle.path_rule.specs.PathRule.{reaches, IsFree, SharesByTwo, SuitsEdge, SuitsPair};
+ghost use Rattle.lists.specs.Bits.{is_set};
+
+use crate::walk::walk_end;
+use edge_sets::has_member;
+
+/// Whether in three dimensions, at each bipolar edge, the triangles that have it form one path from a face in one of
+/// the two facets that have the edge, through shared faces, to a face in the other, and the path meets each of these
+/// triangles once. In other dimensions nothing is asked. The edges of each facet and the bipolar edges are given as
+/// sets. The answer is this rule's where the tuples keep the rule of bipolar edges and the rule of faces.
+pub fn keeps_path<const D: usize>(facets: &[u32], bipolar: u32, tuples: &[[u8; D]]) -> bool
+    requires { All (λ w. All (λ e. e < 32) w) tuples.now }
+    ensures { (kind : Kind) (label : ℕ) → SuitsFacets kind D facets.now tuples.now → Suits kind D label bipolar tuples.now
+        → rule_edges kind D label tuples.now ≡ true → rule_faces kind D tuples.now ≡ true
+        → result ≡ rule_path kind D label tuples.now }
+{
+    if D != 3 {
+        return true;
+    }
+    for edge in 0..32 {
+        if has_member(bipolar, edge) && !has_path(facets, edge, tuples) {
+            return false;
+        }
+    }
+    true
+}
+
+/// Whether the triangles at an edge form one path from the first facet that has the edge to the second.
+fn has_path<const D: usize>(facets: &[u32], edge: u8, tuples: &[[u8; D]]) -> bool
+    requires edge { edge < 32 }
+    requires edges { All (λ w. All (λ e. e < 32) w) tuples.now }
+    ensures { (kind : Kind) → SuitsFacets kind 3 facets.now tuples.now → SuitsEdge kind edge tuples.now → result ≡ is_path kind 3 edge tuples.now }
+{
+    let Some(first) = facet_with(facets, edge, 0) else {
+        return false;
+    };
+    let Some(second) = facet_with(facets, edge, first + 1) else {
+        return false;
+    };
+    leads_across(facets[first], facets[second], edge, tuples)
+}
+
+/// The first facet from a number on that has an edge.
+fn facet_with(facets: &[u32], edge: u8, from: usize) -> Option<usize>
+    requires edge { edge < 32 }
+    requires from { from ≤ length facets.now }
+    ensures from { IfSome result (λ f. from ≤ f) }
+    ensures inside { IfSome result (λ f. f < length facets.now) }
+    ensures found { IfSome result (λ f. is_set (slice_index facets.now f) edge ≡ true) }
+    ensures before { IfSome result (λ f. (i : ℕ) → from ≤ i → i < f → is_set (slice_index facets.now i) edge ≡ false) }
+    ensures none { IfNone result ((i : ℕ) → from ≤ i → i < length facets.now → is_set (slice_index facets.now i) edge ≡ false) }
+{
+    for facet in from..facets.len() {
+        if has_member(facets[facet], edge) {
+            return Some(facet);
+        }
+    }
+    None
+}
+
+/// Whether the triangles at an edge form one path from a face in one facet to a face in another.
+fn leads_across<const D: usize>(first: u32, second: u32, edge: u8, tuples: &[[u8; D]]) -> bool
+    requires edges { All (λ w. All (λ e. e < 32) w) tuples.now }
+    ensures { (kind : Kind) (f g : ℕ) → All (IsTuple kind 3) tuples.now → SuitsPair kind f g first second edge → SuitsEdge kind edge tuples.now
+        → result ≡ list_any (leads kind 3 edge f g) (orders_of (length (others_at edge tuples.now)) (others_at edge tuples.now)) }
+{
+    for start in 0..32 {
+        if start != edge && has_member(first, start) && ends_in(second, edge, start, tuples) {
+            return true;
+        }
+    }
+    false
+}
+
+/// Whether the walk from a face meets all triangles at the edge and ends at a face in a facet that has the edge.
+fn ends_in<const D: usize>(facet: u32, edge: u8, start: u8, tuples: &[[u8; D]]) -> bool
+    requires apart { start ≢ edge }
+    requires small { start < 32 }
+    requires edges { All (λ w. All (λ e. e < 32) w) tuples.now }
+    ensures { (kind : Kind) (f : ℕ) → All (IsTuple kind 3) tuples.now → 0 < length (others_at edge tuples.now) → edge_in_facet kind 3 f edge ≡ true
+        → ((x : ℕ) → x < edge_count kind 3 → is_set facet x ≡ edge_in_facet kind 3 f x) → SharesByTwo edge tuples.now → IsFree edge start tuples.now
+        → result ≡ reaches kind edge f start tuples.now }
+{
+    match walk_end(tuples, edge, start) {
+        Some(face) => has_member(facet, face),
+        None => false,
+    }
+}

@@ -1,0 +1,356 @@
+-- What is kept of the labels of a table tells how they compare, and so whether a label keeps the rule of seams.
+use Rattle.std.specs.Prelude.{◌≡◌, ◌↔◌, ℕ, ℤ, zero, suc, ◌+◌, ◌*◌, ◌^◌, ◌<◌, ◌≤◌, Bool, true, false, List, [], ◌∷◌, map, filter, length, All, slice_index_or}
+use Rattle.std.specs.List.{list_all}
+use Rattle.std.proofs.Common.{get_or, refl, sym, ap, ◌∙◌, subst, arith, inl, inr}
+use Rattle.std.proofs.lemmas.Bool.{cases_eq, cases_lt, and_from}
+use Rattle.std.proofs.lemmas.Nat.{pow-add}
+use Rattle.iso_model.specs.declared.Kind.{Kind}
+use Rattle.lists.specs.Orders.{numbers}
+use Rattle.iso_model.specs.Cells.{HasDimension, corner_count, edge_count, facet_count, corner_in_facet, edge_in_facet, facet_corners, label_count}
+use Rattle.iso_model.specs.Seams.{Seam, seam, seams, corner_across}
+use Rattle.iso_model.specs.CellLaws.{MeetsCorners, KeepsEdges}
+use Rattle.iso_model.specs.Tables.{Table, entry_of}
+use Rattle.iso_model.specs.Acceptance.{rule_seams}
+use Rattle.std.proofs.lemmas.List.Folds.{list_all_at}
+use Rattle.iso_model.specs.Dimensions.{IsDimension}
+use Rattle.cell_lattice.specs.SeamTables.{seam_at}
+use Rattle.face_tallies.specs.declared.faces.FaceTally.{FaceTally}
+use Rattle.face_tallies.specs.Tallies.{AreTallies}
+use Rattle.seam_traces.specs.declared.facets.Facet.{Facet}
+use Rattle.seam_traces.specs.declared.facets.Seen.{Seen}
+use Rattle.seam_traces.specs.declared.facets.Seen.TheVariants.{Never, Alike, Unlike}
+use Rattle.seam_traces.specs.Traces.{number_of_bits, places, pattern, trace, trace_across, keeps_seam}
+use Rattle.seam_traces.specs.TallyLists.{tallies_in, TellTrace}
+use Rattle.seam_traces.specs.Kept.{seen_at, tallies_at, IsSound, pattern_on, tallies_on, TakesTallies, TakesLabel, EachTakesLabel, Matches, IsFacetOf}
+use Rattle.seam_traces.specs.Kept.{AreFacetsOf, HaveTrace, HaveTwoTraces, TellsPattern, TellLabels, TellTable}
+use Rattle.seam_traces.proofs.FacetLists.{range_in, few_edges, members_few, face_places, seam_places}
+use Rattle.seam_traces.proofs.KeptTraces.{traces_correspond, tallies_correspond}
+use Rattle.seam_traces.proofs.KeptSteps.{across_same}
+use Rattle.seam_traces.proofs.SeamRule.{Corresponds, kept_corresponds, corresponds_kept}
+use Rattle.lists.specs.Bits.{is_set, set_number}
+use Rattle.lists.specs.Members.{In}
+use Rattle.lists.proofs.MemberLaws.{from_filter, All-from_In}
+use Rattle.iso_model.proofs.CellCounts.{few_corners}
+
+-- ---- the facets of a cell
+
+small_members : (p : ℕ → Bool) (n bound : ℕ) → n ≤ bound → All (λ k. k < bound) (filter p (numbers n))
+small_members p n bound few =
+    All-from_In (λ k. k < bound) (filter p (numbers n))
+        (λ k i. let r = range_in 0 n k (from_filter p (numbers n) k i).0 in let high = r.1 in omega arith)
+
+pub facet_sound : (kind : Kind) (d f : ℕ) (x : Facet) → IsDimension d → HasDimension kind d → IsFacetOf kind d f x → IsSound x
+facet_sound kind d f x is has facet =
+    let corners : corner_count kind d ≤ 32 = let few = few_corners kind d is has in omega arith in
+    let edges : edge_count kind d ≤ 32 = few_edges kind d is has in
+    record {
+      few_corners =
+          subst (λ (l : List ℕ). length l ≤ 32) (sym facet.corners)
+              (let few = members_few (corner_in_facet kind f) (corner_count kind d) in omega arith);
+      corners = subst (λ (l : List ℕ). All (λ k. k < 32) l) (sym facet.corners) (small_members (corner_in_facet kind f) (corner_count kind d) 32 corners);
+      few_edges = subst (λ (l : List ℕ). length l ≤ 32) (sym facet.edges) (let few = members_few (edge_in_facet kind d f) (edge_count kind d) in omega arith);
+      edges = subst (λ (l : List ℕ). All (λ k. k < 32) l) (sym facet.edges) (small_members (edge_in_facet kind d f) (edge_count kind d) 32 edges);
+      set = facet.set ∙ ap set_number (sym facet.edges);
+      seen = facet.seen ∙ ap (λ (l : List ℕ). 2 ^ length l) (sym facet.corners);
+      traces = facet.traces ∙ ap (λ (l : List ℕ). 2 ^ length l) (sym facet.corners);
+    }
+
+pub facets_sound : (kind : Kind) (d : ℕ) (xs : List Facet) → IsDimension d → HasDimension kind d → AreFacetsOf kind d xs → All IsSound xs
+facets_sound kind d xs is has are k x less = facet_sound kind d k (get_or xs k x) is has (are.each k x (let n = are.count in omega arith))
+
+-- facets that take a label are those of the cell
+facet_taken : (kind : Kind) (d f label : ℕ) (tallies : List FaceTally) (old new : Facet) → IsFacetOf kind d f old → TakesLabel label tallies old new
+    → IsFacetOf kind d f new
+facet_taken kind d f label tallies old new facet takes = record {
+  corners = takes.corners ∙ facet.corners;
+  edges = takes.edges ∙ facet.edges;
+  set = takes.set ∙ facet.set;
+  seen = takes.seen ∙ facet.seen;
+  traces = takes.traces ∙ facet.traces;
+}
+
+pub facets_taken : (kind : Kind) (d label : ℕ) (tallies : List FaceTally) (old new : List Facet) → AreFacetsOf kind d old
+    → EachTakesLabel label tallies old new → AreFacetsOf kind d new
+facets_taken kind d label tallies old new are takes = record {
+  count = takes.count ∙ are.count;
+  each =
+      λ f x less.
+          facet_taken kind d f label tallies (get_or old f x) (get_or new f x) (are.each f x less)
+              (takes.each f x (let n = are.count in omega arith));
+}
+
+-- ---- one more label
+
+straight : (cs : List (ℕ × ℤ)) → trace_across false cs ≡ cs
+straight [] = refl
+straight (c ∷ cs) = ap (λ l. c ∷ l) (straight cs)
+
+have_more : (t : Table) (n f p : ℕ) (kept : List FaceTally) → (h : HaveTrace t n f p kept)
+    → (pattern t.kind t.dimension f n ≡ p → trace t.kind t.dimension f (entry_of t n) ≡ trace t.kind t.dimension f (entry_of t h.first))
+        → HaveTrace t (n + 1) f p kept
+have_more t n f p kept h last = record {
+  first = h.first;
+  is_label = let less = h.is_label in omega arith;
+  has_pattern = h.has_pattern;
+  tells = h.tells;
+  alike = λ m less e. elim (cases_lt m n) [
+    | inl before ↦ h.alike m before e
+    | inr behind ↦
+        let same : n ≡ m = omega arith in
+        subst (λ k. trace t.kind t.dimension f (entry_of t k) ≡ trace t.kind t.dimension f (entry_of t h.first)) same
+            (last (subst (λ k. pattern t.kind t.dimension f k ≡ p) (sym same) e))
+  ];
+}
+
+two_more : (t : Table) (n f p : ℕ) → HaveTwoTraces t n f p → HaveTwoTraces t (n + 1) f p
+two_more t n f p h = record {
+  one = h.one;
+  other = h.other;
+  one_label = let less = h.one_label in omega arith;
+  other_label = let less = h.other_label in omega arith;
+  one_pattern = h.one_pattern;
+  other_pattern = h.other_pattern;
+  differ = h.differ;
+}
+
+-- a label with another pattern
+tells_other : (t : Table) (n f p : ℕ) (s : Seen) (kept : List FaceTally) → (pattern t.kind t.dimension f n ≡ p → ⊥) → TellsPattern t n f p s kept
+    → TellsPattern t (n + 1) f p s kept
+tells_other t n f p Never kept other h = λ m less e. elim (cases_lt m n) [
+  | inl before ↦ h m before e
+  | inr behind ↦ let same : n ≡ m = omega arith in other (subst (λ k. pattern t.kind t.dimension f k ≡ p) (sym same) e)
+]
+tells_other t n f p Alike kept other h = have_more t n f p kept h (λ e. absurd (other e))
+tells_other t n f p Unlike kept other h = two_more t n f p h
+
+-- a label with this pattern
+tells_here : (t : Table) (n f p : ℕ) (s s' : Seen) (kept kept' more : List FaceTally) → IsDimension t.dimension → HasDimension t.kind t.dimension
+    → pattern t.kind t.dimension f n ≡ p
+    → TellTrace t.kind t.dimension f (entry_of t n) more → TakesTallies more s kept s' kept' → TellsPattern t n f p s kept → TellsPattern t (n + 1) f p s' kept'
+tells_here t n f p Never s' kept kept' more is has here tell takes h =
+    let whole : HaveTrace t (n + 1) f p kept' = record {
+      first = n;
+      is_label = omega arith;
+      has_pattern = here;
+      tells = subst (TellTrace t.kind t.dimension f (entry_of t n)) (sym takes.1) tell;
+      alike = λ m less e. elim (cases_lt m n) [
+        | inl before ↦ absurd (h m before e)
+        | inr behind ↦ let same : m ≡ n = omega arith in ap (λ k. trace t.kind t.dimension f (entry_of t k)) same
+      ];
+    } in
+    subst (λ b. TellsPattern t (n + 1) f p b kept') (sym takes.0) whole
+tells_here t n f p Alike s' kept kept' more is has here tell takes h = elim takes.1 [
+  | inl same ↦
+      let corresponds : trace t.kind t.dimension f (entry_of t n) ≡ trace t.kind t.dimension f (entry_of t h.first) =
+      traces_correspond t.kind t.dimension f f is has false (entry_of t h.first) (entry_of t n) kept more refl h.tells tell
+          (sym same.1 ∙ sym (across_same kept))
+      ∙ straight (trace t.kind t.dimension f (entry_of t h.first)) in
+      let whole : HaveTrace t (n + 1) f p kept = have_more t n f p kept h (λ e. corresponds) in
+      subst (λ b. TellsPattern t (n + 1) f p b kept') (sym same.0) (subst (λ l. HaveTrace t (n + 1) f p l) (sym takes.0) whole)
+  | inr other ↦
+      let whole : HaveTwoTraces t (n + 1) f p = record {
+        one = h.first;
+        other = n;
+        one_label = let less = h.is_label in omega arith;
+        other_label = omega arith;
+        one_pattern = h.has_pattern;
+        other_pattern = here;
+        differ = λ e. other.1 (
+            tallies_correspond t.kind t.dimension f f is has false (entry_of t n) (entry_of t h.first) more kept refl tell h.tells
+                (e ∙ sym (straight (trace t.kind t.dimension f (entry_of t n))))
+            ∙ across_same more);
+      } in
+      subst (λ b. TellsPattern t (n + 1) f p b kept') (sym other.0) whole
+]
+tells_here t n f p Unlike s' kept kept' more is has here tell takes h = subst (λ b. TellsPattern t (n + 1) f p b kept') (sym takes.0) (two_more t n f p h)
+
+tells_facet : (t : Table) (n f p : ℕ) (tallies : List FaceTally) (old new : Facet) → IsDimension t.dimension → HasDimension t.kind t.dimension
+    → IsFacetOf t.kind t.dimension f old
+    → AreTallies t.dimension (entry_of t n) tallies → TakesLabel n tallies old new → TellsPattern t n f p (seen_at old p) (tallies_at old p)
+        → TellsPattern t (n + 1) f p (seen_at new p) (tallies_at new p)
+tells_facet t n f p tallies old new is has facet are takes h =
+    let on : pattern_on old n ≡ pattern t.kind t.dimension f n = ap (λ (l : List ℕ). places l n) facet.corners in
+    elim (cases_eq p (pattern_on old n)) [
+      | inl e ↦
+          let takes_here =
+              subst (λ q. TakesTallies (tallies_on old tallies) (seen_at old q) (tallies_at old q) (seen_at new q) (tallies_at new q)) (sym e)
+                  takes.here in
+          let tell : TellTrace t.kind t.dimension f (entry_of t n) (tallies_on old tallies) =
+          record { tallies = tallies; are_tallies = are; kept_are = ap (λ (l : List ℕ). tallies_in l tallies) facet.edges } in
+          tells_here t n f p (seen_at old p) (seen_at new p) (tallies_at old p) (tallies_at new p) (tallies_on old tallies) is has (sym (e ∙ on)) tell
+              takes_here h
+      | inr other ↦
+          let r = takes.others p other in
+          subst (λ s. TellsPattern t (n + 1) f p s (tallies_at new p)) (sym r.0) (subst (λ l. TellsPattern t (n + 1) f p (seen_at old p) l) (sym r.1)
+          (tells_other t n f p (seen_at old p) (tallies_at old p) (λ e. other (sym (on ∙ e))) h))
+    ]
+
+pub tells_more : (kind : Kind) (d : ℕ) (t : Table) (n : ℕ) (tallies : List FaceTally) (old new : List Facet) → t.kind ≡ kind → t.dimension ≡ d
+    → IsDimension d → HasDimension kind d
+    → AreFacetsOf kind d old → AreTallies d (entry_of t n) tallies → EachTakesLabel n tallies old new → TellLabels t n old → TellLabels t (n + 1) new
+tells_more kind d t n tallies old new k e is has facets are takes tell f p x in_f in_p =
+    let facets' : AreFacetsOf t.kind t.dimension old =
+        subst (λ b. AreFacetsOf b t.dimension old) (sym k) (subst (λ b. AreFacetsOf kind b old) (sym e) facets) in
+    let is' : IsDimension t.dimension = subst IsDimension (sym e) is in
+    let has' : HasDimension t.kind t.dimension = subst (λ b. HasDimension b t.dimension) (sym k) (subst (λ b. HasDimension kind b) (sym e) has) in
+    let are' : AreTallies t.dimension (entry_of t n) tallies = subst (λ b. AreTallies b (entry_of t n) tallies) (sym e) are in
+    tells_facet t n f p tallies (get_or old f x) (get_or new f x) is' has' (facets'.each f x in_f) are'
+        (takes.each f x (let c = facets'.count in omega arith)) (tell f p x in_f in_p)
+
+-- before the first label
+pub tells_none : (t : Table) (facets : List Facet) → All (λ (x : Facet). (p : ℕ) → seen_at x p ≡ Never) facets
+    → length facets ≡ facet_count t.kind t.dimension → TellLabels t 0 facets
+tells_none t facets never count f p x in_f in_p =
+    subst (λ s. TellsPattern t 0 f p s (tallies_at (get_or facets f x) p)) (sym (never f x (omega arith) p)) (λ m less e. let h : m < 0 = less in omega arith)
+
+-- ---- a label at the ends of a seam
+
+match_all : (t : Table) (n f g : ℕ) (same : Bool) (label : ℕ) (more : List FaceTally) (s : Seen) (kept : List FaceTally) → IsDimension t.dimension
+    → HasDimension t.kind t.dimension
+    → face_places t.kind t.dimension f ≡ face_places t.kind t.dimension g → TellTrace t.kind t.dimension f (entry_of t label) more
+        → TellsPattern t n g (pattern t.kind t.dimension f label) s kept
+    → Matches same more s kept → Corresponds t n f g same label
+match_all t n f g same label more Never kept is has e tell h match = λ m less p. absurd (h m less p)
+match_all t n f g same label more Alike kept is has e tell h match =
+    λ m less p. h.alike m less p ∙ traces_correspond t.kind t.dimension f g is has same (entry_of t label) (entry_of t h.first) more kept e tell h.tells match
+match_all t n f g same label more Unlike kept is has e tell h match = absurd match
+
+all_match : (t : Table) (n f g : ℕ) (same : Bool) (label : ℕ) (more : List FaceTally) (s : Seen) (kept : List FaceTally) → IsDimension t.dimension
+    → HasDimension t.kind t.dimension
+    → face_places t.kind t.dimension f ≡ face_places t.kind t.dimension g → TellTrace t.kind t.dimension f (entry_of t label) more
+        → TellsPattern t n g (pattern t.kind t.dimension f label) s kept
+    → Corresponds t n f g same label → Matches same more s kept
+all_match t n f g same label more Never kept is has e tell h all = tt
+all_match t n f g same label more Alike kept is has e tell h all =
+    tallies_correspond t.kind t.dimension f g is has same (entry_of t label) (entry_of t h.first) more kept e tell h.tells
+        (all h.first h.is_label h.has_pattern)
+all_match t n f g same label more Unlike kept is has e tell h all =
+    h.differ (all h.one h.one_label h.one_pattern ∙ sym (all h.other h.other_label h.other_pattern))
+
+-- what the kept tallies of one facet say of a label by its pattern and its tallies on another
+abbrev pub MatchesAt : Bool → ℕ → List FaceTally → Facet → Facet → Type 0
+MatchesAt same label tallies here there =
+    Matches same (tallies_on here tallies) (seen_at there (pattern_on here label)) (tallies_at there (pattern_on here label))
+
+places_few : (members : List ℕ) (set : ℕ) → places members set < 2 ^ length members
+places_few [] set = omega arith
+places_few (m ∷ members) set =
+    let e : 1 + length members ≡ suc (length members) = omega arith in
+    subst (λ n. number_of_bits (is_set set m ∷ map (is_set set) members) < 2 ^ n) e (by (is_set set m) (places_few members set) (pow-add 2 1 (length members)))
+  where
+    by : (b : Bool) → places members set < 2 ^ length members → 2 ^ (1 + length members) ≡ 2 ^ 1 * 2 ^ length members
+        → number_of_bits (b ∷ map (is_set set) members) < 2 ^ (1 + length members)
+    by true h p = omega arith
+    by false h p = omega arith
+
+-- where the kept tallies of the facets tell of all labels, they match exactly where all labels correspond
+end_law : (t : Table) (facets : List Facet) (f g : ℕ) (same : Bool) (label : ℕ) (tallies : List FaceTally) (here there : Facet)
+    → IsDimension t.dimension → HasDimension t.kind t.dimension
+    → TellLabels t (label_count t.kind t.dimension) facets → IsFacetOf t.kind t.dimension f here → there ≡ get_or facets g there
+        → g < facet_count t.kind t.dimension
+    → length (facet_corners t.kind t.dimension f) ≡ length (facet_corners t.kind t.dimension g)
+        → face_places t.kind t.dimension f ≡ face_places t.kind t.dimension g
+    → AreTallies t.dimension (entry_of t label) tallies
+        → MatchesAt same label tallies here there ↔ Corresponds t (label_count t.kind t.dimension) f g same label
+end_law t facets f g same label tallies here there is has tell facet read in_g wide e are =
+    let n = label_count t.kind t.dimension in
+    let p = pattern t.kind t.dimension f label in
+    let on : pattern_on here label ≡ p = ap (λ (l : List ℕ). places l label) facet.corners in
+    let few : p < 2 ^ length (facet_corners t.kind t.dimension g) = subst (λ k. p < 2 ^ k) wide (places_few (facet_corners t.kind t.dimension f) label) in
+    let known : TellsPattern t n g p (seen_at there p) (tallies_at there p) =
+        subst (λ (x : Facet). TellsPattern t n g p (seen_at x p) (tallies_at x p)) (sym read) (tell g p there in_g few) in
+    let more : TellTrace t.kind t.dimension f (entry_of t label) (tallies_on here tallies) =
+        record { tallies = tallies; are_tallies = are; kept_are = ap (λ (l : List ℕ). tallies_in l tallies) facet.edges } in (
+      λ match. match_all t n f g same label (tallies_on here tallies) (seen_at there p) (tallies_at there p) is has e more known
+          (subst (λ q. Matches same (tallies_on here tallies) (seen_at there q) (tallies_at there q)) on match),
+      λ all. subst (λ q. Matches same (tallies_on here tallies) (seen_at there q) (tallies_at there q)) (sym on)
+          (all_match t n f g same label (tallies_on here tallies) (seen_at there p) (tallies_at there p) is has e more known all),
+    )
+
+-- what is known of a seam and of its two facets
+pub record IsSeam (kind : Kind) (d : ℕ) (facets : List Facet) (s : Seam) (x y : Facet) : Type 0 where
+  pub corners : MeetsCorners kind d s
+  pub edges : KeepsEdges kind d s
+  pub places : face_places kind d s.facet ≡ face_places kind d s.other
+  pub in_facets : s.facet < facet_count kind d
+  pub other_in_facets : s.other < facet_count kind d
+  pub facet : IsFacetOf kind d s.facet x
+  pub other : IsFacetOf kind d s.other y
+  pub read : x ≡ get_or facets s.facet x
+  pub other_read : y ≡ get_or facets s.other y
+
+-- a label keeps the rule at a seam exactly where the kept tallies of each facet match those of the label on the other
+abbrev pub SeamLaw : Table → List Facet → ℕ → List FaceTally → Seam → Facet → Facet → Kind → ℕ → Type 0
+SeamLaw t facets label tallies s x y kind d =
+    IsDimension d → HasDimension kind d → TellLabels t (label_count kind d) facets → IsSeam kind d facets s x y → AreTallies d (entry_of t label) tallies
+    → (MatchesAt s.same_parity label tallies x y × MatchesAt s.same_parity label tallies y x) ↔ (keeps_seam t label s ≡ true)
+
+own_seam_law : (t : Table) (facets : List Facet) (label : ℕ) (tallies : List FaceTally) (s : Seam) (x y : Facet)
+    → SeamLaw t facets label tallies s x y t.kind t.dimension
+own_seam_law t facets label tallies s x y is has tell seam are =
+    let wide : length (facet_corners t.kind t.dimension s.facet) ≡ length (facet_corners t.kind t.dimension s.other) =
+    sym (length-map (corner_across t.kind t.dimension s) (facet_corners t.kind t.dimension s.facet)) ∙ ap (λ (l : List ℕ). length l) seam.corners in
+    let one =
+        end_law t facets s.facet s.other s.same_parity label tallies x y is has tell seam.facet seam.other_read seam.other_in_facets wide seam.places
+            are in
+    let two = end_law t facets s.other s.facet s.same_parity label tallies y x is has tell seam.other seam.read seam.in_facets (sym wide)
+        (sym seam.places) are in (
+      λ match. corresponds_kept t label s seam.corners seam.edges (one.0 match.0) (two.0 match.1),
+      λ kept. let r = kept_corresponds t label s seam.corners seam.edges kept in (one.1 r.0, two.1 r.1),
+    )
+  where
+    length-map : (f : ℕ → ℕ) (xs : List ℕ) → length (map f xs) ≡ length xs
+    length-map f [] = refl
+    length-map f (x ∷ xs) = let r = length-map f xs in omega arith
+
+pub seam_law : (kind : Kind) (d : ℕ) (t : Table) (facets : List Facet) (label : ℕ) (tallies : List FaceTally) (s : Seam) (x y : Facet) → IsDimension d
+    → HasDimension kind d
+    → TellTable kind d t facets → IsSeam kind d facets s x y → AreTallies d (entry_of t label) tallies
+    → (MatchesAt s.same_parity label tallies x y × MatchesAt s.same_parity label tallies y x) ↔ (keeps_seam t label s ≡ true)
+seam_law kind d t facets label tallies s x y is has tell seam are =
+    let law : SeamLaw t facets label tallies s x y kind d =
+    subst (λ k. SeamLaw t facets label tallies s x y k d) tell.kind_is
+        (subst (λ n. SeamLaw t facets label tallies s x y t.kind n) tell.dimension_is (own_seam_law t facets label tallies s x y)) in
+    law is has tell.labels seam are
+
+-- ---- a seam by its number
+
+abbrev pub made_seam : ℕ → ℕ → Bool → Seam
+made_seam f g same = record { facet = f; other = g; same_parity = same }
+
+pub seam_is : (s : Seam) (f g : ℕ) (same : Bool) → f ≡ s.facet → g ≡ s.other → same ≡ s.same_parity → made_seam f g same ≡ s
+seam_is s f g same a b c = ap (λ k. made_seam k g same) a ∙ ap (λ k. made_seam s.facet k same) b ∙ ap (λ k. made_seam s.facet s.other k) c
+
+pub facet_read : (kind : Kind) (d f : ℕ) (facets : List Facet) (x : Facet) → AreFacetsOf kind d facets → f < facet_count kind d
+    → x ≡ get_or facets f x → IsFacetOf kind d f x
+facet_read kind d f facets x are less read = subst (IsFacetOf kind d f) (sym read) (are.each f x less)
+
+pub sound_read : (kind : Kind) (d f : ℕ) (facets : List Facet) (x : Facet) → IsDimension d → HasDimension kind d → AreFacetsOf kind d facets
+    → f < facet_count kind d → x ≡ get_or facets f x → IsSound x
+sound_read kind d f facets x is has are less read = facet_sound kind d f x is has (facet_read kind d f facets x are less read)
+
+pub seam_read : (kind : Kind) (d n : ℕ) (facets : List Facet) (f g : ℕ) (same : Bool) (x y : Facet) → IsDimension d → HasDimension kind d
+    → All (MeetsCorners kind d) (seams kind d) → All (KeepsEdges kind d) (seams kind d) → n < length (seams kind d) → made_seam f g same ≡ seam_at kind d n
+    → f < facet_count kind d → g < facet_count kind d → IsFacetOf kind d f x → IsFacetOf kind d g y → x ≡ get_or facets f x → y ≡ get_or facets g y
+    → IsSeam kind d facets (made_seam f g same) x y
+seam_read kind d n facets f g same x y is has corners edges less e in_f in_g facet other read_x read_y = record {
+  corners = subst (MeetsCorners kind d) (sym e) (corners n (seam 0 0 false) less);
+  edges = subst (KeepsEdges kind d) (sym e) (edges n (seam 0 0 false) less);
+  places = subst (λ (s : Seam). face_places kind d s.facet ≡ face_places kind d s.other) (sym e) (seam_places kind d is has n (seam 0 0 false) less);
+  in_facets = in_f;
+  other_in_facets = in_g;
+  facet = facet;
+  other = other;
+  read = read_x;
+  other_read = read_y;
+}
+
+-- ---- all seams
+
+seams_at : (p : Seam → Bool) (ss : List Seam) (d : Seam) → ((k : ℕ) → k < length ss → p (slice_index_or ss k d) ≡ true) → list_all p ss ≡ true
+seams_at p [] d h = refl
+seams_at p (s ∷ ss) d h = and_from (p s) (list_all p ss) (h 0 (omega arith)) (seams_at p ss d (λ k less. h (suc k) (omega arith)))
+
+pub keeps_all : (kind : Kind) (d : ℕ) (t : Table) (label : ℕ) → ((k : ℕ) → k < length (seams kind d) → keeps_seam t label (seam_at kind d k) ≡ true)
+    → rule_seams (seams kind d) t label ≡ true
+keeps_all kind d t label h = seams_at (keeps_seam t label) (seams kind d) (seam 0 0 false) h

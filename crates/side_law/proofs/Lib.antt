@@ -1,4 +1,0 @@
-pub mod Exchanged
-pub mod Rows
-pub mod Towards
-pub mod Sided
