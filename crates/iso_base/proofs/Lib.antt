@@ -1,3 +1,4 @@
 pub mod Appending
 pub mod FilesByName
+pub mod SameShelf
 pub mod Taking

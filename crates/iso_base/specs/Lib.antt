@@ -4,3 +4,4 @@ pub mod Files
 pub mod Fronts
 pub mod InMemory
 pub mod Places
+pub mod Shelves

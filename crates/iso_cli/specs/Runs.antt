@@ -21,7 +21,8 @@ use Rattle.iso_cli.specs.declared.status.Status.{Status}
 use Rattle.iso_cli.specs.declared.status.Status.TheVariants as Statuses
 use Rattle.iso_cli.specs.Outputs.{IsGenerated, accepted_line, placed_text}
 use Rattle.iso_cli.specs.Refusals.{FileHas, HoldBoth, HoldsAccepted, IsRefusedMesh, IsRefusedTable}
-use Rattle.iso_cli.specs.Shelves.{IsSameShelf, BlamesShelf}
+use Rattle.iso_base.specs.Shelves.{IsSameShelf}
+use Rattle.iso_cli.specs.Shelves.{BlamesShelf}
 use Rattle.iso_cli.specs.Statuses.{IsDecided, IsOfPutting, IsShelfFault, IsUsage}
 use Rattle.iso_cli.specs.StatusLines.{status_line}
 

@@ -8,7 +8,8 @@ ghost use Rattle.table_file.specs.Reading.{table_in};
 ghost use Rattle.iso_cli.specs.Checked.{checked_in};
 ghost use Rattle.iso_cli.specs.Refusals.{FileHas, HoldBoth, HoldTable, HoldsAccepted, IsRefusedGrid, IsRefusedMesh, IsRefusedTable};
 ghost use Rattle.iso_cli.specs.Runs.{LacksMeshFile};
-ghost use Rattle.iso_cli.specs.Shelves.{BlamesShelf, IsSameShelf};
+ghost use Rattle.iso_base.specs.Shelves.{IsSameShelf};
+ghost use Rattle.iso_cli.specs.Shelves.{BlamesShelf};
 ghost use Rattle.iso_cli.specs.Statuses.{IsDecided, IsOfFiles, IsOfGrid, IsOfTable, IsShelfFault};
 
 use crate::checked::{CheckedTable, certify_any, dimension};

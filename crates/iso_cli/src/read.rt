@@ -1,7 +1,8 @@
 //! Files of a shelf, read up to a limit.
 
 ghost use Rattle.std.specs.Prelude.{◌≡◌, ◌≤◌, length, IfOk, IfErr};
-ghost use Rattle.iso_cli.specs.Shelves.{IsSameShelf, BlamesShelf, TakesAtMost, AreFrontOf};
+ghost use Rattle.iso_base.specs.Shelves.{IsSameShelf, TakesAtMost};
+ghost use Rattle.iso_cli.specs.Shelves.{BlamesShelf, AreFrontOf};
 ghost use Rattle.iso_cli.specs.Statuses.{IsOfReading, IsShelfFault};
 
 use crate::status::Status;

@@ -29,8 +29,8 @@ has_some p (x ∷ xs) e = has_some_cases p x xs (p x) e (has_some p xs)
 content_cases : (text : List ℕ) (comment pair colon none : Bool) → is_comment text ≡ comment → is_pair text ≡ pair → has text 58 ≡ colon
     → is_empty (name_of text) ≡ none
     → (if comment || pair then passed_over else if not colon
-           || none then unreadable else named_field (name_of text) (trimmed (after_first (nat_eq 58) text)))
-        ≡ content text
+    || none then unreadable else named_field (name_of text) (trimmed (after_first (nat_eq 58) text)))
+    ≡ content text
 content_cases text comment pair colon none a b c d = rw (a, b, c, d) refl
 
 pub content-unreadable : (text : List ℕ) → is_comment text ≡ false → is_pair text ≡ false → position_or_len (nat_eq 58) text ≡ length text
@@ -40,10 +40,10 @@ content-unreadable text a b e = content_cases text false false false (is_empty (
 pub content-named : (text name value : List ℕ) (colon : ℕ) → is_comment text ≡ false → is_pair text ≡ false → colon ≡ position_or_len (nat_eq 58) text
     → colon < length text
     → name ≡ trimmed (take colon text) → (length name == 0) ≡ false → value ≡ trimmed (drop (colon + 1) text)
-        → named_field (str_to_ascii_lowercase name) value ≡ content text
+    → named_field (str_to_ascii_lowercase name) value ≡ content text
 content-named text name value colon a b e l n z v =
     let name_is : name_of text ≡ str_to_ascii_lowercase name =
-        ap (λ k. str_to_ascii_lowercase (trimmed (take k text))) (sym e) ∙ ap str_to_ascii_lowercase (sym n) in
+    ap (λ k. str_to_ascii_lowercase (trimmed (take k text))) (sym e) ∙ ap str_to_ascii_lowercase (sym n) in
     let value_is : trimmed (after_first (nat_eq 58) text) ≡ value = ap (λ k. trimmed (drop (k + 1) text)) (sym e) ∙ sym v in
     let some : is_empty (name_of text) ≡ false = ap is_empty name_is ∙ ap (λ k. k == 0) (length-map name to_ascii_lowercase) ∙ z in
     ap (λ m. named_field m value) (sym name_is) ∙ ap (λ w. named_field (name_of text) w) (sym value_is)

@@ -41,7 +41,7 @@ counts (suc (suc (suc zero))) (a ∷ b ∷ c ∷ d ∷ []) shape two sized =
       same = rw q (omega arith);
       fits =
           small a b c d (size_at (a ∷ b ∷ c ∷ []) 0 sized (omega arith)) (size_at (a ∷ b ∷ c ∷ []) 1 sized (omega arith))
-              (size_at (a ∷ b ∷ c ∷ []) 2 sized (omega arith)) (omega arith);
+          (size_at (a ∷ b ∷ c ∷ []) 2 sized (omega arith)) (omega arith);
     }
 counts (suc (suc (suc (suc (suc n))))) (a ∷ b ∷ c ∷ d ∷ []) shape two sized = absurd (omega (arith, shape.few))
 counts (suc (suc (suc (suc zero)))) (a ∷ b ∷ c ∷ d ∷ []) shape two sized =
@@ -49,5 +49,5 @@ counts (suc (suc (suc (suc zero)))) (a ∷ b ∷ c ∷ d ∷ []) shape two sized
       same = omega arith;
       fits =
           small a b c d (size_at (a ∷ b ∷ c ∷ d ∷ []) 0 sized (omega arith)) (size_at (a ∷ b ∷ c ∷ d ∷ []) 1 sized (omega arith))
-              (size_at (a ∷ b ∷ c ∷ d ∷ []) 2 sized (omega arith)) (size_at (a ∷ b ∷ c ∷ d ∷ []) 3 sized (omega arith));
+          (size_at (a ∷ b ∷ c ∷ d ∷ []) 2 sized (omega arith)) (size_at (a ∷ b ∷ c ∷ d ∷ []) 3 sized (omega arith));
     }

@@ -1,21 +1,22 @@
 -- Taking the first line.
 use Rattle.std.proofs.Common.{true, false, ◌≡◌, inl, inr, ℕ, zero, suc, ◌<◌, ◌≤◌, List, [], ◌∷◌, ◌++◌, length, get_or, Option, Some, None, sym, ap}
 use Rattle.std.proofs.Common.{◌∙◌, subst, arith, length-append}
-use Rattle.std.specs.Prelude.{Result, Ok, Err, OnOk, IfErr, IfSome, IsTrue}
+use Rattle.std.specs.Prelude.{Result, Ok, Err, OnOk, IfErr, IfSome, IsSome}
 use Rattle.std.specs.Io.KnownBytes.{Consumes}
 use Rattle.std.proofs.lemmas.List.{append_assoc}
 use Rattle.iso_formats.specs.HeaderLines.{begins_right}
 use Rattle.nrrd_raw.specs.declared.faults.GridFault.{GridFault}
 use Rattle.nrrd_raw.specs.declared.faults.GridFault.TheVariants.{Shelf}
 use Rattle.nrrd_raw.specs.FaultCauses.{cause_of}
-use Rattle.nrrd_raw.specs.GridFaultWords.{is_shelf_fault}
+use Rattle.nrrd_raw.specs.GridFaultWords.{blame_of}
 use Rattle.iso_formats.specs.GridFaults.{HasHeaderFault, no_magic}
 use Rattle.std.proofs.lemmas.Bool.{false≢true}
 use Rattle.std.specs.Prelude.{drop, ◌==◌}
 use Rattle.nrrd_raw.specs.LineEnds.{without_return}
 use Rattle.nrrd_raw.proofs.FrontLaws.{front-end}
 use Rattle.nrrd_raw.specs.HeaderFronts.{texts_of, IsFront, HasFront, FitsFirst, TakesFitting, IsUnfit, IsNoBeginning, least_first, greatest_first}
-use Rattle.nrrd_raw.specs.Taken.{TakesByte, TakesAtMost}
+use Rattle.iso_base.specs.Shelves.{TakesAtMost}
+use Rattle.nrrd_raw.specs.Taken.{TakesByte}
 use Rattle.nrrd_raw.proofs.TakenLaws.{TakesAtMost-consumed, TakesAtMost-none}
 use Rattle.nrrd_raw.proofs.MagicLaws.{wrong-place, wrong-return, front-return}
 
@@ -50,7 +51,7 @@ first-return (Err k) old now front before after f e t = tt
 first-return (Ok x) old now front before after f e t =
     let ten : t.byte ≡ 10 = omega (arith, t.low, t.high) in
     let whole : after ≡ front ++ 13 ∷ 10 ∷ [] =
-        t.pushed ∙ ap (λ (b : ℕ). before ++ b ∷ []) ten ∙ ap (λ zs. zs ++ 10 ∷ []) e ∙ append_assoc front (13 ∷ []) (10 ∷ []) in
+    t.pushed ∙ ap (λ (b : ℕ). before ++ b ∷ []) ten ∙ ap (λ zs. zs ++ 10 ∷ []) e ∙ append_assoc front (13 ∷ []) (10 ∷ []) in
     subst (λ (xs : List ℕ). HasFront xs (length xs)) (sym whole) (front-return front f)
 
 pub taken-byte : (old now : Option (List ℕ)) (o : Option ℕ) → TakesByte old now o → TakesAtMost 1 old now
@@ -72,7 +73,7 @@ other-byte (Some xs) (Some ys) (Some c) t a b =
 
 -- ---- a front that goes on
 
-shelf_fault : (bytes : List ℕ) (fault : GridFault) → IsTrue (is_shelf_fault fault) → IfSome (cause_of fault) (HasHeaderFault bytes)
+shelf_fault : (bytes : List ℕ) (fault : GridFault) → IsSome (blame_of fault) → IfSome (cause_of fault) (HasHeaderFault bytes)
 shelf_fault bytes (Shelf n) s = tt
 shelf_fault bytes fault s = absurd (no_shelf s)
   where

@@ -1,5 +1,5 @@
 -- The bytes at the front of a file, up to the end of its header.
-use Rattle.std.proofs.Common.{◌≡◌, inl, inr, ℕ, suc, ◌+◌, ◌-◌, ◌<◌, ◌≤◌, Bool, true, false, not, nat_eq, List, [], ◌∷◌, ◌++◌, map, length, take, drop}
+use Rattle.std.proofs.Common.{◌≡◌, inl, inr, ℕ, ◌+◌, ◌-◌, ◌<◌, ◌≤◌, Bool, true, false, not, nat_eq, List, [], ◌∷◌, ◌++◌, map, length, take, drop}
 use Rattle.std.proofs.Common.{get_or, Option, Some, None, refl, sym, ap, ◌∙◌, subst, arith, length-append, append-nil}
 use Rattle.std.specs.Prelude.{◌==◌, ◌&&◌, ◌||◌, flat_map, slice_index_or, IsTrue, IfSome, if◌then◌else◌}
 use Rattle.std.specs.List.{AllPass, position_or_len, last_or}
@@ -58,7 +58,7 @@ plain_line part h e = record {
     bare (x ∷ xs) e =
         let place : length (x ∷ xs) - 1 ≡ length xs = omega arith in
         let last : nat_eq 13 (get_or (x ∷ xs) (length xs) 0) ≡ false =
-            swapped (get_or (x ∷ xs) (length xs) 0) (ap (λ i. get_or (x ∷ xs) i 0 == 13) (sym place) ∙ e) in
+        swapped (get_or (x ∷ xs) (length xs) 0) (ap (λ i. get_or (x ∷ xs) i 0 == 13) (sym place) ∙ e) in
         ap (λ (o : Option ℕ). not (option_map_or (nat_eq 13) o false)) (last_is None x xs) ∙ ap not last
 
 return_line : (part : List ℕ) → has part 10 ≡ false → (get_or part (length part - 1) 0 == 13) ≡ true → MadeLine part
@@ -85,7 +85,7 @@ return_line part h e =
     last_part part l e =
         let place : length part - 1 + 1 ≡ length part = omega arith in
         drop_more part (length part - 1) 0 (omega arith) ∙ ap (λ n. n ∷ drop (length part - 1 + 1) part) (is_13 _ e)
-            ∙ ap (λ i. 13 ∷ drop i part) place ∙ ap (λ zs. 13 ∷ zs) (drop_all (length part) part (omega arith))
+        ∙ ap (λ i. 13 ∷ drop i part) place ∙ ap (λ zs. 13 ∷ zs) (drop_all (length part) part (omega arith))
 
 made_cases : (part : List ℕ) (b : Bool) → has part 10 ≡ false → (get_or part (length part - 1) 0 == 13) ≡ b → MadeLine part
 made_cases part true h e = return_line part h e
@@ -187,7 +187,7 @@ not_empty t f e = false≢true (subst (λ (u : List ℕ). is_filled u ≡ true) 
 pub longer : (ls ms : List Line) (ts : List (List ℕ)) (part ys more : List ℕ) → AllPass is_line ls → AllPass is_line ms
     → AllPass is_filled (texts_of ls) → texts_of ms ≡ ts ++ [] ∷ []
     → has part 10 ≡ false → flat_map line_bytes ls ++ (part ++ ys) ≡ flat_map line_bytes ms ++ more
-        → length (flat_map line_bytes ls) + length part < length (flat_map line_bytes ms)
+    → length (flat_map line_bytes ls) + length part < length (flat_map line_bytes ms)
 longer ls [] [] part ys more a b f r h e = absurd (cc)
 longer ls [] (t ∷ ts) part ys more a b f r h e = absurd (cc)
 longer [] (m ∷ ms) ts part ys more a b f r h e =
@@ -200,7 +200,7 @@ longer (l ∷ ls) (m ∷ ms) [] part ys more a b f r h e =
     let sl = starts_with_line l x (pass_head is_line l ls a) in
     let sm = starts_with_line m y (pass_head is_line m ms b) in
     let form : line_bytes l ++ x ≡ line_bytes m ++ y =
-        sym (append_assoc (line_bytes l) (flat_map line_bytes ls) (part ++ ys)) ∙ e ∙ append_assoc (line_bytes m) (flat_map line_bytes ms) more in
+    sym (append_assoc (line_bytes l) (flat_map line_bytes ls) (part ++ ys)) ∙ e ∙ append_assoc (line_bytes m) (flat_map line_bytes ms) more in
     absurd (not_empty l.text (pass_head is_filled l.text (texts_of ls) f) (sym sl.text ∙ ap first_text form ∙ sm.text ∙ same_head m.text [] _ _ r))
 longer (l ∷ ls) (m ∷ ms) (t ∷ ts) part ys more a b f r h e =
     let x = flat_map line_bytes ls ++ (part ++ ys) in
@@ -208,14 +208,14 @@ longer (l ∷ ls) (m ∷ ms) (t ∷ ts) part ys more a b f r h e =
     let sl = starts_with_line l x (pass_head is_line l ls a) in
     let sm = starts_with_line m y (pass_head is_line m ms b) in
     let form : line_bytes l ++ x ≡ line_bytes m ++ y =
-        sym (append_assoc (line_bytes l) (flat_map line_bytes ls) (part ++ ys)) ∙ e ∙ append_assoc (line_bytes m) (flat_map line_bytes ms) more in
+    sym (append_assoc (line_bytes l) (flat_map line_bytes ls) (part ++ ys)) ∙ e ∙ append_assoc (line_bytes m) (flat_map line_bytes ms) more in
     let len : length (line_bytes l) ≡ length (line_bytes m) = sym sl.end ∙ ap (λ bs. position_or_len (nat_eq 10) bs + 1) form ∙ sm.end in
     let rest : x ≡ y =
-        sym (drop_at (line_bytes l) x (length (line_bytes l)) refl) ∙ ap (drop (length (line_bytes l))) form
-            ∙ ap (λ i. drop i (line_bytes m ++ y)) len ∙ drop_at (line_bytes m) y (length (line_bytes m)) refl in
+    sym (drop_at (line_bytes l) x (length (line_bytes l)) refl) ∙ ap (drop (length (line_bytes l))) form
+    ∙ ap (λ i. drop i (line_bytes m ++ y)) len ∙ drop_at (line_bytes m) y (length (line_bytes m)) refl in
     let later =
-        longer ls ms ts part ys more (pass_tail is_line l ls a) (pass_tail is_line m ms b) (pass_tail is_filled l.text (texts_of ls) f)
-            (ap (drop 1) r) h rest in
+    longer ls ms ts part ys more (pass_tail is_line l ls a) (pass_tail is_line m ms b) (pass_tail is_filled l.text (texts_of ls) f)
+    (ap (drop 1) r) h rest in
     omega (arith, later, len, length-append (line_bytes l) (flat_map line_bytes ls), length-append (line_bytes m) (flat_map line_bytes ms))
 
 -- bytes that begin so hold no header that ends within the front
@@ -226,13 +226,12 @@ front-longer front ys start f texts more p =
     let all = all_bytes front start f in
     let form : flat_map line_bytes f.lines ++ (drop start front ++ ys) ≡ flat_map line_bytes p.lines ++ more =
     sym (append_assoc (flat_map line_bytes f.lines) (drop start front) ys) ∙ ap (λ zs. zs ++ ys) all ∙ p.spelled in
-    omega
-        (
-          arith,
-          longer f.lines p.lines texts (drop start front) ys more f.are_lines p.are_lines f.filled p.read f.unbroken form,
-          ap length all,
-          length-append (flat_map line_bytes f.lines) (drop start front)
-        )
+    omega (
+      arith,
+      longer f.lines p.lines texts (drop start front) ys more f.are_lines p.are_lines f.filled p.read f.unbroken form,
+      ap length all,
+      length-append (flat_map line_bytes f.lines) (drop start front),
+    )
 
 -- ---- the causes where the end does not come
 
@@ -243,14 +242,13 @@ no_lines_left : (front : List ℕ) (start : ℕ) (f : HasFront front start) → 
 no_lines_left front start f texts more p =
     let q : HasLines (front ++ []) texts more = subst (λ (bs : List ℕ). HasLines bs texts more) (sym (append-nil front)) p in
     absurd
-        (omega
-             (
-               arith,
-               front-longer front [] start f texts more q,
-               ap length q.spelled,
-               length-append (flat_map line_bytes q.lines) more,
-               length-append front []
-             ))
+    (omega (
+      arith,
+      front-longer front [] start f texts more q,
+      ap length q.spelled,
+      length-append (flat_map line_bytes q.lines) more,
+      length-append front [],
+    ))
 
 pub front-long : (old now : Option (List ℕ)) (front : List ℕ) (start : ℕ) → HasFront front start → Consumes old now front → header_limit ≤ length front
     → IfSome old (λ bytes. HasHeaderFault bytes header_too_long)

@@ -1,7 +1,7 @@
 -- The lines of a header, judged one after another.
 use Rattle.std.proofs.Common.{◌≡◌, ◌⊎◌, inl, inr, ℕ, zero, suc, ◌+◌, ◌-◌, ◌<◌, ◌≤◌, false, not, List, [], ◌∷◌, ◌++◌, map, length, take, drop, get_or}
 use Rattle.std.proofs.Common.{Option, Some, None, refl, sym, ap, ◌∙◌, subst, arith, length-append, append-nil}
-use Rattle.std.specs.Prelude.{Result, Ok, Err, IfOk, IfErr, IsFalse, ◌==◌, nat_eq, flat_map, slice_index_or, IsTrue}
+use Rattle.std.specs.Prelude.{Result, Ok, Err, IfOk, IfErr, IsNone, ◌==◌, nat_eq, flat_map, slice_index_or, IsTrue}
 use Rattle.std.specs.List.{AllPass, position_or_len, range_with_len}
 use Rattle.std.proofs.lemmas.Bool.{false≢true, cases_lt}
 use Rattle.std.proofs.lemmas.List.{append_assoc, take_more, take_all, length-take-le, get_or_append_left, get_or-append_right, length-map, drop_all, drop_more}
@@ -12,7 +12,7 @@ use Rattle.iso_formats.proofs.HeaderLaws.{header_of_lines}
 use Rattle.nrrd_raw.specs.declared.stated.Stated.{Stated}
 use Rattle.nrrd_raw.specs.declared.faults.GridFault as fault
 use Rattle.nrrd_raw.specs.declared.faults.GridFault.TheVariants as variant
-use Rattle.nrrd_raw.specs.GridFaultWords.{is_header_fault, is_shelf_fault}
+use Rattle.nrrd_raw.specs.GridFaultWords.{is_header_fault, blame_of}
 use Rattle.nrrd_raw.specs.FaultCauses.{cause_of}
 use Rattle.nrrd_raw.specs.LineEnds.{first_text}
 use Rattle.nrrd_raw.specs.States.{States, AddsLine, HasCause, whole_fault}
@@ -106,7 +106,7 @@ module _ (bytes : List ℕ) (texts : List (List ℕ)) (p : HasLines bytes texts 
   line_is : (l : 0 < length text) (number : ℕ) → number ≡ n + 1 → line_fault texts n ≡ content_fault (take n texts) number (content text)
   line_is l number e =
       ap (λ (i : ℕ). content_fault (take n texts) i (content (slice_index_or texts n []))) (sym e)
-          ∙ ap (λ (t : List ℕ). content_fault (take n texts) number (content t)) (sym (within l).1)
+      ∙ ap (λ (t : List ℕ). content_fault (take n texts) number (content t)) (sym (within l).1)
 
   pub reading-more : (number : ℕ) (s' : Stated) → 0 < length text → number ≡ n + 1 → AddsLine s s' number (content text)
       → ReadingOf texts p.lines bytes next (n + 1) s'
@@ -136,13 +136,12 @@ reading-ended bytes texts p at n s r l =
     let more : n < length p.lines = omega (arith, count, r.few) in
     let none : [] ≡ flat_map line_bytes (drop n p.lines) = sym (drop_all at bytes l) ∙ r.left in
     let form = none ∙ ap (flat_map line_bytes) (drop_more p.lines n (record { text = []; has_return = false }) more) in
-    omega
-        (
-          arith,
-          ap length form,
-          length-append (line_bytes (get_or p.lines n (record { text = []; has_return = false }))) (flat_map line_bytes (drop (n + 1) p.lines)),
-          line_bytes-some (get_or p.lines n (record { text = []; has_return = false }))
-        )
+    omega (
+      arith,
+      ap length form,
+      length-append (line_bytes (get_or p.lines n (record { text = []; has_return = false }))) (flat_map line_bytes (drop (n + 1) p.lines)),
+      line_bytes-some (get_or p.lines n (record { text = []; has_return = false })),
+    )
 
 -- ---- the end of the lines
 
@@ -161,7 +160,7 @@ lines_fault-whole texts clean =
     let own = map (line_fault texts) (range_with_len 1 (length texts - 1)) in
     ap first_some (append_assoc own (map (missing_fault texts) all_fields) (count_fault texts ∷ []))
     ∙ some_none own (map (missing_fault texts) all_fields ++ count_fault texts ∷ [])
-        (range_none (line_fault texts) 1 (length texts - 1) (λ i l m. clean i l (omega arith)))
+    (range_none (line_fault texts) 1 (length texts - 1) (λ i l m. clean i l (omega arith)))
 
 -- ---- what the code answers behind the last line
 
@@ -183,9 +182,9 @@ Done bytes s = (texts : List (List ℕ)) → HasLines bytes texts [] → IsTrue 
 pub answers-spelled : (r : Result Header fault.GridFault) (bytes : List ℕ) (s : Stated) → Done bytes s
     → IfOk r (λ h. (texts : List (List ℕ)) → States s texts → whole_fault texts ≡ None)
     → IfOk r
-        (λ h.
-             (texts : List (List ℕ)) → States s texts → AllPass is_sound_line (drop 1 texts) → IsTrue (is_first_line (slice_index_or texts 0 []))
-                 → SpellHeader texts h)
+    (λ h.
+    (texts : List (List ℕ)) → States s texts → AllPass is_sound_line (drop 1 texts) → IsTrue (is_first_line (slice_index_or texts 0 []))
+    → SpellHeader texts h)
     → IfOk r (λ h. (texts : List (List ℕ)) → HasLines bytes texts [] → IsTrue (is_first_line (slice_index_or texts 0 [])) → SpellHeader texts h)
 answers-spelled (Err e) bytes s d w h = tt
 answers-spelled (Ok k) bytes s d w h = λ texts p f.
@@ -200,7 +199,7 @@ answers-cause (Ok h) bytes s d w = tt
 answers-cause (Err k) bytes s d w = λ texts p f. let done = d texts p f in lines_fault-whole texts done.clean ∙ sym (w texts done.stated)
 
 -- a cause of a header's form is one of the definition
-pub form_cause : (f : fault.GridFault) → IsTrue (is_header_fault f) → IsFalse (is_shelf_fault f) → (x : GridFault) × (cause_of f ≡ Some x)
+pub form_cause : (f : fault.GridFault) → IsTrue (is_header_fault f) → IsNone (blame_of f) → (x : GridFault) × (cause_of f ≡ Some x)
 form_cause (variant.TooLarge n) h s = absurd (false≢true h)
 form_cause (variant.DataShort n) h s = absurd (false≢true h)
 form_cause variant.Trailing h s = absurd (false≢true h)

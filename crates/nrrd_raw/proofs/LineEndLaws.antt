@@ -1,10 +1,10 @@
 -- The first line of bytes.
 use Rattle.std.proofs.Common.{◌≡◌, ℕ, ◌+◌, ◌-◌, ◌<◌, Bool, true, false, not, nat_eq, List, [], ◌∷◌, ◌++◌, map, length, take, drop, get_or, Option}
-use Rattle.std.proofs.Common.{Some, None, refl, sym, ap, ◌∙◌, subst, arith, length-append}
-use Rattle.std.specs.Prelude.{◌&&◌, ◌||◌, ◌==◌, flat_map, slice_index, slice_index_or, if◌then◌else◌}
+use Rattle.std.proofs.Common.{None, refl, sym, ap, ◌∙◌, arith, length-append}
+use Rattle.std.specs.Prelude.{◌==◌, flat_map, slice_index, slice_index_or, if◌then◌else◌}
 use Rattle.std.specs.List.{AllPass, position_or_len, last_or}
 use Rattle.std.specs.Option.{option_map_or}
-use Rattle.std.proofs.lemmas.Bool.{false≢true, or_parts, and_parts, not-true}
+use Rattle.std.proofs.lemmas.Bool.{or_parts, and_parts, not-true}
 use Rattle.std.proofs.lemmas.Bool.Decides.{nat_tests}
 use Rattle.std.proofs.lemmas.List.{append_assoc, length_push, get_or_push, take_at, drop_at, drop_more, drop-drop, length-drop, get_or-map}
 use Rattle.lists.specs.Orders.{has}
@@ -26,7 +26,7 @@ without_return-plain (x ∷ xs) e =
     let last : nat_eq 13 (get_or (x ∷ xs) (length xs) 0) ≡ false = sym (ap (λ (o : Option ℕ). option_map_or (nat_eq 13) o false) (last_is None x xs)) ∙ e in
     let place : length (x ∷ xs) - 1 ≡ length xs = omega arith in
     let test : (slice_index (x ∷ xs) (length (x ∷ xs) - 1) == 13) ≡ false =
-        ap (λ i. slice_index (x ∷ xs) i == 13) place ∙ swapped (get_or (x ∷ xs) (length xs) 0) last in
+    ap (λ i. slice_index (x ∷ xs) i == 13) place ∙ swapped (get_or (x ∷ xs) (length xs) 0) last in
     ap (λ b. if b then take (length (x ∷ xs) - 1) (x ∷ xs) else (x ∷ xs)) test
   where
     swapped : (n : ℕ) → nat_eq 13 n ≡ false → (n == 13) ≡ false
@@ -36,7 +36,7 @@ without_return-return : (xs : List ℕ) → without_return (xs ++ 13 ∷ []) ≡
 without_return-return xs =
     let place : length (xs ++ 13 ∷ []) - 1 ≡ length xs = omega (arith, length_push xs 13) in
     let test : (slice_index (xs ++ 13 ∷ []) (length (xs ++ 13 ∷ []) - 1) == 13) ≡ true =
-        ap (λ i. slice_index (xs ++ 13 ∷ []) i == 13) place ∙ ap (λ n. n == 13) (get_or_push xs 13 0 (length xs) refl) in
+    ap (λ i. slice_index (xs ++ 13 ∷ []) i == 13) place ∙ ap (λ n. n == 13) (get_or_push xs 13 0 (length xs) refl) in
     ap (λ b. if b then take (length (xs ++ 13 ∷ []) - 1) (xs ++ 13 ∷ []) else (xs ++ 13 ∷ [])) test
     ∙ ap (λ i. take i (xs ++ 13 ∷ [])) place ∙ take_at xs (13 ∷ []) (length xs) refl
 
@@ -86,8 +86,8 @@ pub record Steps (bytes : List ℕ) (ls : List Line) (at n : ℕ) (text : List �
 pub steps : (bytes : List ℕ) (ls : List Line) (at n : ℕ) (text : List ℕ) (next : ℕ) → AllPass is_line ls → n < length ls
     → drop at bytes ≡ flat_map line_bytes (drop n ls)
     → text ≡ first_text (drop at bytes)
-        → (at + position_or_len (nat_eq 10) (drop at bytes) < length bytes → next ≡ at + position_or_len (nat_eq 10) (drop at bytes) + 1)
-        → Steps bytes ls at n text next
+    → (at + position_or_len (nat_eq 10) (drop at bytes) < length bytes → next ≡ at + position_or_len (nat_eq 10) (drop at bytes) + 1)
+    → Steps bytes ls at n text next
 steps bytes ls at n text next are few left t e =
     let l = slice_index_or ls n no_line in
     let more = flat_map line_bytes (drop (n + 1) ls) in
@@ -101,7 +101,7 @@ steps bytes ls at n text next are few left t e =
       same = t ∙ ap first_text form ∙ s.text ∙ sym (get_or-map (λ (k : Line). k.text) ls n no_line [] few);
       left =
           ap (λ i. drop i bytes) next_is ∙ sym (drop-drop (length (line_bytes l)) at bytes) ∙ ap (drop (length (line_bytes l))) form
-              ∙ drop_at (line_bytes l) more (length (line_bytes l)) refl;
+          ∙ drop_at (line_bytes l) more (length (line_bytes l)) refl;
     }
 
 -- a line has at least one byte

@@ -1,7 +1,7 @@
 -- The first line, byte by byte.
 use Rattle.std.proofs.Common.{◌≡◌, ◌⊎◌, inl, inr, ℕ, zero, suc, ◌+◌, ◌-◌, ◌<◌, ◌≤◌, Bool, true, false, nat_eq, List, [], ◌∷◌, ◌++◌, length, take}
 use Rattle.std.proofs.Common.{drop, get_or, Option, Some, None, refl, sym, ap, ◌∙◌, subst, arith, length-append, append-nil}
-use Rattle.std.specs.Prelude.{◌||◌, ◌&&◌, IfSome}
+use Rattle.std.specs.Prelude.{◌&&◌, IfSome}
 use Rattle.std.specs.List.{AllPass, starts_with, list_any}
 use Rattle.std.specs.Io.KnownBytes.{Consumes}
 use Rattle.std.proofs.lemmas.Bool.{false≢true, cases_lt, or_cases}
@@ -60,24 +60,24 @@ begun_at bytes d l h e = elim (or_cases (starts_with nat_eq bytes (digit_line d 
 begun : (bytes : List ℕ) → begins_right bytes ≡ true → Begun bytes
 begun bytes e = elim (or_cases (list_any (λ r. starts_with nat_eq bytes (line_bytes (record { text = digit_line 49; has_return = r })))
     (true ∷ false ∷ [])) _ e) [
-  | inl a ↦ begun_at bytes 49 (omega arith) (omega arith) a
-  | inr a ↦ elim (or_cases (list_any (λ r. starts_with nat_eq bytes (line_bytes (record { text = digit_line 50; has_return = r }))) (true ∷ false ∷ [])) _ a) [
-    | inl b ↦ begun_at bytes 50 (omega arith) (omega arith) b
-    | inr b ↦ elim (or_cases (list_any (λ r. starts_with nat_eq bytes (line_bytes (record { text = digit_line 51; has_return = r })))
-        (true ∷ false ∷ [])) _ b) [
-      | inl c ↦ begun_at bytes 51 (omega arith) (omega arith) c
-      | inr c ↦ elim (or_cases (list_any (λ r. starts_with nat_eq bytes (line_bytes (record { text = digit_line 52; has_return = r })))
-          (true ∷ false ∷ [])) _ c) [
-        | inl d ↦ begun_at bytes 52 (omega arith) (omega arith) d
-        | inr d ↦ elim (or_cases (list_any (λ r. starts_with nat_eq bytes (line_bytes (record { text = digit_line 53; has_return = r })))
-            (true ∷ false ∷ [])) _ d) [
-          | inl f ↦ begun_at bytes 53 (omega arith) (omega arith) f
-          | inr f ↦ absurd (false≢true f)
-        ]
+      | inl a ↦ begun_at bytes 49 (omega arith) (omega arith) a
+      | inr a ↦ elim (or_cases (list_any (λ r. starts_with nat_eq bytes (line_bytes (record { text = digit_line 50; has_return = r }))) (true ∷ false ∷ [])) _ a) [
+        | inl b ↦ begun_at bytes 50 (omega arith) (omega arith) b
+        | inr b ↦ elim (or_cases (list_any (λ r. starts_with nat_eq bytes (line_bytes (record { text = digit_line 51; has_return = r })))
+            (true ∷ false ∷ [])) _ b) [
+              | inl c ↦ begun_at bytes 51 (omega arith) (omega arith) c
+              | inr c ↦ elim (or_cases (list_any (λ r. starts_with nat_eq bytes (line_bytes (record { text = digit_line 52; has_return = r })))
+                  (true ∷ false ∷ [])) _ c) [
+                    | inl d ↦ begun_at bytes 52 (omega arith) (omega arith) d
+                    | inr d ↦ elim (or_cases (list_any (λ r. starts_with nat_eq bytes (line_bytes (record { text = digit_line 53; has_return = r })))
+                        (true ∷ false ∷ [])) _ d) [
+                          | inl f ↦ begun_at bytes 53 (omega arith) (omega arith) f
+                          | inr f ↦ absurd (false≢true f)
+                        ]
+                  ]
+            ]
       ]
     ]
-  ]
-]
 
 not_begun : (bytes : List ℕ) (b : Bool) → begins_right bytes ≡ b → (Begun bytes → ⊥) → b ≡ false
 not_begun bytes true e h = absurd (h (begun bytes e))
@@ -99,10 +99,10 @@ begun_fits : (bytes : List ℕ) (b : Begun bytes) (k : ℕ) → k < 8 → (get_o
 begun_fits bytes b k m = elim b.is [
   | inl e ↦
       subst (λ (bs : List ℕ). (get_or least_first k 0 ≤ get_or bs k 0) × (get_or bs k 0 ≤ get_or greatest_first k 0)) (sym e)
-          (digit_fits b.digit (10 ∷ b.rest) b.low b.high k m)
+      (digit_fits b.digit (10 ∷ b.rest) b.low b.high k m)
   | inr e ↦
       subst (λ (bs : List ℕ). (get_or least_first k 0 ≤ get_or bs k 0) × (get_or bs k 0 ≤ get_or greatest_first k 0)) (sym e)
-          (digit_fits b.digit (13 ∷ 10 ∷ b.rest) b.low b.high k m)
+      (digit_fits b.digit (13 ∷ 10 ∷ b.rest) b.low b.high k m)
 ]
 
 -- ---- bytes that do not begin right
@@ -114,7 +114,7 @@ byte_at front ys n k e s =
 
 pub wrong-place : (old now : Option (List ℕ)) (front : List ℕ) (place : ℕ) → FitsFirst front place → place < 8 → Consumes old now front
     → IfSome now (λ ys. (get_or ys 0 0 < get_or least_first place 0) ⊎ (get_or greatest_first place 0 < get_or ys 0 0))
-        → IfSome old (λ bytes. begins_right bytes ≡ false)
+    → IfSome old (λ bytes. begins_right bytes ≡ false)
 wrong-place None now front place f l c w = tt
 wrong-place (Some bytes) None front place f l c w = absurd c
 wrong-place (Some bytes) (Some ys) front place f l c w = not_begun bytes (begins_right bytes) refl (λ b.
@@ -268,7 +268,7 @@ FitsFirst-more front after place old new f t = record {
   fits = λ k l. elim (cases_lt k place) [
     | inl below ↦
         (let at : get_or after k 0 ≡ get_or front k 0 = ap (λ (xs : List ℕ). get_or xs k 0) t.pushed
-            ∙ get_or_append_left front (t.byte ∷ []) 0 k (omega (arith, f.len)) in
+        ∙ get_or_append_left front (t.byte ∷ []) 0 k (omega (arith, f.len)) in
         (omega (arith, at, (f.fits k below).0), omega (arith, at, (f.fits k below).1)))
     | inr here ↦
         (let same : k ≡ place = omega arith in

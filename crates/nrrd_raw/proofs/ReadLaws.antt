@@ -1,18 +1,16 @@
 -- Samples that are read in pieces.
-use Rattle.std.proofs.Common.{◌≡◌, ℕ, ◌+◌, ◌*◌, ◌<◌, ◌≤◌, ◌++◌, [], ◌∷◌, ℤ, true, false, List, length, take, Option, Some, None, sym, ap, subst}
+use Rattle.std.proofs.Common.{◌≡◌, ℕ, ◌+◌, ◌*◌, ◌<◌, ◌≤◌, ◌++◌, [], ◌∷◌, ℤ, true, false, List, length, Option, Some, None, sym, ap, subst}
 use Rattle.std.proofs.Common.{append-nil, ◌∙◌, arith, length-append}
 use Rattle.std.proofs.Math.Nat.{mul-le-mul_right}
-use Rattle.std.proofs.lemmas.List.{take_all, length-take-le}
-use Rattle.std.specs.Io.KnownBytes.{Consumes, IsAtEnd}
-use Rattle.std.proofs.KnownBytes.{Consumes-nil, Consumes-trans}
+use Rattle.std.specs.Io.KnownBytes.{Consumes}
+use Rattle.std.proofs.KnownBytes.{Consumes-trans}
 use Rattle.iso_formats.specs.GridFile.{Header, samples_of}
 use Rattle.nrrd_raw.specs.FaultCauses.{ReadsSamples, ReadsMore, IsCutOff, IsDataFault}
-use Rattle.nrrd_raw.specs.Taken.{FillsUp}
 use Rattle.nrrd_raw.specs.declared.faults.GridFault.{GridFault}
 use Rattle.nrrd_raw.specs.declared.faults.GridFault.TheVariants.{DataShort, Trailing, Shelf, Memory}
 use Rattle.nrrd_raw.specs.GridFaultWords.{is_piece_fault, is_data_fault}
 use Rattle.iso_model.specs.Values.{product}
-use Rattle.iso_formats.specs.GridFile.{SpellsSamples, sample_limit}
+use Rattle.iso_formats.specs.GridFile.{sample_limit}
 use Rattle.iso_formats.specs.GridFaults.{HasSampleFault, too_many, cut_off, overlong, data_too_short, sizes_too_large}
 use Rattle.std.specs.Prelude.{IfSome, IsTrue}
 use Rattle.nrrd_raw.specs.FaultCauses.{cause_of}
@@ -27,7 +25,7 @@ ReadsSamples-more h a b c n m k before after e p q = record {
   taken = Consumes-trans a b c p.came q.came p.taken q.taken;
   spelled =
       q.spelled ∙ ap (λ items. items ++ samples_of h m q.came) p.spelled ∙ sym (samples_of-append h n m p.came q.came p.whole)
-          ∙ ap (λ i. samples_of h i (p.came ++ q.came)) (sym e);
+      ∙ ap (λ i. samples_of h i (p.came ++ q.came)) (sym e);
 }
 
 -- behind the samples that were read before, so many bytes came in all
@@ -40,12 +38,11 @@ IsDataFault-short h a b c n more wanted count items p l q =
 -- one byte follows the samples
 pub IsDataFault-trailing : (h : Header) (a b c : Option (List ℕ)) (n wanted byte : ℕ) (items : List ℤ) → ReadsSamples h a b n items → n ≡ wanted
     → Consumes b c (byte ∷ []) → IsDataFault (wanted * h.width) a c Trailing
-IsDataFault-trailing h a b c n wanted byte items p e q =
-    (
-      p.came ++ byte ∷ [],
-      length-append p.came (byte ∷ []) ∙ ap (λ len. len + 1) (p.whole ∙ ap (λ i. i * h.width) e),
-      Consumes-trans a b c p.came (byte ∷ []) p.taken q
-    )
+IsDataFault-trailing h a b c n wanted byte items p e q = (
+  p.came ++ byte ∷ [],
+  length-append p.came (byte ∷ []) ∙ ap (λ len. len + 1) (p.whole ∙ ap (λ i. i * h.width) e),
+  Consumes-trans a b c p.came (byte ∷ []) p.taken q,
+)
 
 pub IsDataFault-cut : (h : Header) (a b c : Option (List ℕ)) (n more wanted : ℕ) (items : List ℤ) (fault : GridFault) → ReadsSamples h a b n items
     → n + more ≤ wanted → IsTrue (is_piece_fault fault) → IsCutOff h b c n more fault → IsDataFault (wanted * h.width) a c fault

@@ -1,6 +1,6 @@
 -- A header at the front of a file.
 use Rattle.std.proofs.Common.{◌≡◌, ℕ, List, [], ◌++◌, Option, Some, None, refl, sym, ap, ◌∙◌, subst, append-nil}
-use Rattle.std.specs.Prelude.{Result, Ok, Err, IfOk, IfErr, IfSome, IsTrue, IsFalse, flat_map, slice_index_or}
+use Rattle.std.specs.Prelude.{Result, Ok, Err, IfOk, IfErr, IfSome, IsTrue, IsNone, flat_map, slice_index_or}
 use Rattle.std.specs.Io.KnownBytes.{Consumes}
 use Rattle.iso_formats.specs.HeaderLines.{HasLines, is_first_line, line_bytes, begins_right}
 use Rattle.iso_formats.specs.GridFaults as cause
@@ -9,7 +9,7 @@ use Rattle.iso_model.specs.Values.{Grid}
 use Rattle.iso_formats.specs.GridFaults.{HasHeaderFault, HasSampleFault, HasGridFault, of_header, of_samples, of_lines, lines_fault}
 use Rattle.nrrd_raw.specs.declared.faults.GridFault.{GridFault}
 use Rattle.nrrd_raw.specs.FaultCauses.{cause_of}
-use Rattle.nrrd_raw.specs.GridFaultWords.{is_header_fault, is_shelf_fault}
+use Rattle.nrrd_raw.specs.GridFaultWords.{is_header_fault, blame_of}
 use Rattle.nrrd_raw.specs.HeaderFronts.{IsFront}
 use Rattle.nrrd_raw.specs.Headers.{HeaderIsRead}
 use Rattle.nrrd_raw.proofs.JudgeLaws.{form_cause}
@@ -33,11 +33,11 @@ header-read (Ok h) (Some bytes) None front f c s = absurd c
 header-read (Ok h) (Some bytes) (Some ys) front f c s = (ys, (f.texts, with_rest bytes front ys f.texts c f.lines, s f.texts f.lines f.first), refl)
 
 pub header-cause : (r : Result Header GridFault) (old new : Option (List ℕ)) (front : List ℕ) → IsFront front → Consumes old new front
-    → IfErr r (λ fault. IsTrue (is_header_fault fault)) → IfErr r (λ fault. IsFalse (is_shelf_fault fault))
+    → IfErr r (λ fault. IsTrue (is_header_fault fault)) → IfErr r (λ fault. IsNone (blame_of fault))
     → IfErr r
-        (λ fault.
-             (texts : List (List ℕ)) → HasLines front texts [] → IsTrue (is_first_line (slice_index_or texts 0 []))
-                 → lines_fault texts ≡ cause_of fault)
+    (λ fault.
+    (texts : List (List ℕ)) → HasLines front texts [] → IsTrue (is_first_line (slice_index_or texts 0 []))
+    → lines_fault texts ≡ cause_of fault)
     → IfSome old (λ bytes. IfErr r (λ fault. IfSome (cause_of fault) (HasHeaderFault bytes)))
 header-cause r None new front f c h s w = tt
 header-cause r (Some bytes) None front f c h s w = absurd c
@@ -45,8 +45,8 @@ header-cause (Ok k) (Some bytes) (Some ys) front f c h s w = tt
 header-cause (Err e) (Some bytes) (Some ys) front f c h s w =
     let x = form_cause e h s in
     let fault =
-        of_lines f.texts ys x.0 (ap (λ (bs : List ℕ). begins_right bs) c ∙ f.begins ys) (with_rest bytes front ys f.texts c f.lines)
-            (w f.texts f.lines f.first ∙ x.1) in
+    of_lines f.texts ys x.0 (ap (λ (bs : List ℕ). begins_right bs) c ∙ f.begins ys) (with_rest bytes front ys f.texts c f.lines)
+    (w f.texts f.lines f.first ∙ x.1) in
     subst (λ (o : Option cause.GridFault). IfSome o (HasHeaderFault bytes)) (sym x.1) fault
 
 -- ---- a whole grid

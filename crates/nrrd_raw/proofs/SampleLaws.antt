@@ -97,12 +97,12 @@ room k count width len l e =
 
 pub samples_spelled : (h : Header) (value : List ℕ → ℤ) (width count : ℕ) (piece : List ℕ) (samples : List ℤ) → h.width ≡ width → length samples ≡ count
     → length piece ≡ count * width → AreBytes piece → Spells h value width → HasValues value width piece samples (length samples)
-        → samples ≡ samples_of h count piece
+    → samples ≡ samples_of h count piece
 samples_spelled h value width count piece samples w n len bytes spells values =
     same_lists samples (samples_of h count piece) (n ∙ sym (length-map-range_with_len (λ i. sample_value h (group_at h.width piece i)) 0 count))
     (λ k d l. values k d l
     ∙ spells (drop (k * width) piece) (omega (arith, room k count width (length piece) (omega arith) len, length-drop (k * width) piece))
-        (bytes_behind (k * width) piece bytes)
+    (bytes_behind (k * width) piece bytes)
     ∙ ap (λ i. sample_value h (take i (drop (k * i) piece))) (sym w)
     ∙ sym (get_or-map-range_with_len (λ i. sample_value h (group_at h.width piece i)) 0 count k k d (omega arith) (omega arith)))
 

@@ -152,9 +152,9 @@ pub sizes_from-wrong : (ws rest next : List (List ℕ)) (w : List ℕ) (count : 
 sizes_from-wrong ws rest next w count places r e s =
     let n = next_word ws next w count (r.left ∙ e) in
     let wrong : list_all is_size (take (count + 1) ws) ≡ false =
-        ap (list_all is_size) n.taken ∙ all_push (take count ws) w false r.fine (size_not (is_size w) (numeral_value w) s) in
+    ap (list_all is_size) n.taken ∙ all_push (take count ws) w false r.fine (size_not (is_size w) (numeral_value w) s) in
     let all : list_all is_size ws ≡ false =
-        ap (list_all is_size) (sym (take-append-drop (count + 1) ws)) ∙ all_front (take (count + 1) ws) (drop (count + 1) ws) wrong in
+    ap (list_all is_size) (sym (take-append-drop (count + 1) ws)) ∙ all_front (take (count + 1) ws) (drop (count + 1) ws) wrong in
     rw all (not_all (nat_le 1 (length ws)) (nat_le (length ws) 4) (map numeral_value ws))
 
 too_many : (n : ℕ) (b : Bool) (ns : List ℕ) → 4 < n → None ≡ (if nat_le 1 n && nat_le n 4 && b then Some ns else None)
@@ -209,5 +209,5 @@ HasShape-set count size places s l =
       four = length-set places count size ∙ s.four;
       beyond =
           drop-set-lt (count + 1) places count size (omega arith) ∙ sym (drop-drop 1 count places) ∙ ap (drop 1) s.beyond
-              ∙ drop-replicate 1 (4 - count) 1 ∙ ap (λ n. replicate n 1) e;
+          ∙ drop-replicate 1 (4 - count) 1 ∙ ap (λ n. replicate n 1) e;
     }

@@ -1,7 +1,7 @@
 -- What a line more states.
-use Rattle.std.proofs.Common.{◌≡◌, ◌⊎◌, inl, inr, ℕ, ◌+◌, ◌<◌, ◌≤◌, Bool, true, false, not, cond, eqb, List, [], ◌∷◌, ◌++◌, length, drop, Option}
+use Rattle.std.proofs.Common.{◌≡◌, inl, inr, ℕ, ◌+◌, ◌<◌, ◌≤◌, Bool, true, false, not, cond, eqb, List, [], ◌∷◌, ◌++◌, length, drop, Option}
 use Rattle.std.proofs.Common.{Some, None, refl, sym, ap, ◌∙◌, subst, arith, length-append, append-nil}
-use Rattle.std.specs.Prelude.{◌||◌, codes, is_some, IfSome}
+use Rattle.std.specs.Prelude.{codes, is_some, IfSome}
 use Rattle.std.specs.List.{cons_option, filter_map, position_or_len}
 use Rattle.std.specs.Str.{str_to_ascii_lowercase}
 use Rattle.std.proofs.lemmas.Bool.{false≢true, or_cases}
@@ -28,7 +28,7 @@ values_push : (name : List ℕ) (texts : List (List ℕ)) (text : List ℕ) → 
     → values name (texts ++ text ∷ []) ≡ values name texts ++ filter_map (λ t. value_if name (content t)) (text ∷ [])
 values_push name texts text l =
     ap (filter_map (λ t. value_if name (content t))) (drop-append-le 1 texts (text ∷ []) l)
-        ∙ filter_map-append (λ t. value_if name (content t)) (drop 1 texts) (text ∷ [])
+    ∙ filter_map-append (λ t. value_if name (content t)) (drop 1 texts) (text ∷ [])
 
 no_value : (name text : List ℕ) → value_if name (content text) ≡ None → filter_map (λ t. value_if name (content t)) (text ∷ []) ≡ []
 no_value name text e = rw e refl
@@ -124,7 +124,7 @@ given f text v k e = ap (value_if (field_name k)) e
 
 pub states-type : (s : Sample) (d : Option ℕ) (z : Option (counted.Sizes × ℕ)) (r : Bool) (b : Option Bool) (texts : List (List ℕ)) (text v : List ℕ)
     → content text ≡ named_field (field_name SampleType) v → lines.sample_of v ≡ Some (sample_view s) → StatesValues None d z r b texts
-        → StatesValues (Some s) d z r b (texts ++ text ∷ [])
+    → StatesValues (Some s) d z r b (texts ++ text ∷ [])
 states-type s d z r b texts text v e x h = record {
   begun = omega (arith, length-append texts (text ∷ []), h.begun);
   sample_type = reads_new lines.sample_of (field_name SampleType) texts text v _ h.begun (given SampleType text v SampleType e) h.sample_type x;
@@ -137,7 +137,7 @@ states-type s d z r b texts text v e x h = record {
 
 pub states-dimension : (s : Option Sample) (d : ℕ) (z : Option (counted.Sizes × ℕ)) (r : Bool) (b : Option Bool) (texts : List (List ℕ)) (text v : List ℕ)
     → content text ≡ named_field (field_name Dimension) v → lines.dimension_of v ≡ Some d → StatesValues s None z r b texts
-        → StatesValues s (Some d) z r b (texts ++ text ∷ [])
+    → StatesValues s (Some d) z r b (texts ++ text ∷ [])
 states-dimension s d z r b texts text v e x h = record {
   begun = omega (arith, length-append texts (text ∷ []), h.begun);
   sample_type = reads_same lines.sample_of (field_name SampleType) texts text _ h.begun (given Dimension text v SampleType e) h.sample_type;
@@ -156,18 +156,17 @@ states-sizes s d z n r b texts text v e x l h = record {
   sample_type = reads_same lines.sample_of (field_name SampleType) texts text _ h.begun (given Sizes text v SampleType e) h.sample_type;
   axes = reads_same lines.dimension_of (field_name Dimension) texts text _ h.begun (given Sizes text v Dimension e) h.axes;
   counts = reads_new lines.sizes_of (field_name Sizes) texts text v _ h.begun (given Sizes text v Sizes e) h.counts x;
-  counts_line =
-      (
-        line_new (field_name Sizes) texts text v h.begun (given Sizes text v Sizes e) h.counts ∙ sym l,
-        omega (arith, length-append texts (text ∷ []), l)
-      );
+  counts_line = (
+    line_new (field_name Sizes) texts text v h.begun (given Sizes text v Sizes e) h.counts ∙ sym l,
+    omega (arith, length-append texts (text ∷ []), l),
+  );
   encoding = reads_same raw_of (field_name Encoding) texts text _ h.begun (given Sizes text v Encoding e) h.encoding;
   order = reads_same lines.big_endian_of (field_name Endian) texts text _ h.begun (given Sizes text v Endian e) h.order;
 }
 
 pub states-encoding : (s : Option Sample) (d : Option ℕ) (z : Option (counted.Sizes × ℕ)) (b : Option Bool) (texts : List (List ℕ)) (text v : List ℕ)
     → content text ≡ named_field (field_name Encoding) v → lines.is_raw v ≡ true → StatesValues s d z false b texts
-        → StatesValues s d z true b (texts ++ text ∷ [])
+    → StatesValues s d z true b (texts ++ text ∷ [])
 states-encoding s d z b texts text v e x h = record {
   begun = omega (arith, length-append texts (text ∷ []), h.begun);
   sample_type = reads_same lines.sample_of (field_name SampleType) texts text _ h.begun (given Encoding text v SampleType e) h.sample_type;
@@ -180,7 +179,7 @@ states-encoding s d z b texts text v e x h = record {
 
 pub states-endian : (s : Option Sample) (d : Option ℕ) (z : Option (counted.Sizes × ℕ)) (r : Bool) (b : Bool) (texts : List (List ℕ)) (text v : List ℕ)
     → content text ≡ named_field (field_name Endian) v → lines.big_endian_of v ≡ Some b → StatesValues s d z r None texts
-        → StatesValues s d z r (Some b) (texts ++ text ∷ [])
+    → StatesValues s d z r (Some b) (texts ++ text ∷ [])
 states-endian s d z r b texts text v e x h = record {
   begun = omega (arith, length-append texts (text ∷ []), h.begun);
   sample_type = reads_same lines.sample_of (field_name SampleType) texts text _ h.begun (given Endian text v SampleType e) h.sample_type;
@@ -199,7 +198,7 @@ none_of (Some x) e = absurd (false≢true (sym e))
 
 pub adds-type :
     (o : Option Sample) (s : Sample) (d : Option ℕ) (z : Option (counted.Sizes × ℕ)) (r : Bool) (b : Option Bool) (texts : List (List ℕ))
-        (text v : List ℕ) (n : ℕ)
+    (text v : List ℕ) (n : ℕ)
     → is_some o ≡ false → content text ≡ named_field (field_name SampleType) v → Some (sample_view s) ≡ lines.sample_of v → StatesValues o d z r b texts
     → StatesValues (Some s) d z r b (texts ++ text ∷ []) × (content_fault texts n (named_field (field_name SampleType) v) ≡ None)
 adds-type (Some p) s d z r b texts text v n o e x h = absurd (false≢true (sym o))
@@ -207,7 +206,7 @@ adds-type None s d z r b texts text v n o e x h = (states-type s d z r b texts t
 
 pub adds-dimension :
     (s : Option Sample) (o : Option ℕ) (d : ℕ) (z : Option (counted.Sizes × ℕ)) (r : Bool) (b : Option Bool) (texts : List (List ℕ)) (text v : List ℕ)
-        (n : ℕ)
+    (n : ℕ)
     → is_some o ≡ false → content text ≡ named_field (field_name Dimension) v → Some d ≡ lines.dimension_of v → StatesValues s o z r b texts
     → StatesValues s (Some d) z r b (texts ++ text ∷ []) × (content_fault texts n (named_field (field_name Dimension) v) ≡ None)
 adds-dimension s (Some p) d z r b texts text v n o e x h = absurd (false≢true (sym o))
@@ -215,9 +214,9 @@ adds-dimension s None d z r b texts text v n o e x h = (states-dimension s d z r
 
 pub adds-sizes :
     (s : Option Sample) (d : Option ℕ) (o : Option (counted.Sizes × ℕ)) (z : counted.Sizes) (r : Bool) (b : Option Bool) (texts : List (List ℕ))
-        (text v : List ℕ) (n : ℕ)
+    (text v : List ℕ) (n : ℕ)
     → is_some o ≡ false → content text ≡ named_field (field_name Sizes) v → Some (sizes_view z) ≡ lines.sizes_of v → n ≡ length texts + 1
-        → StatesValues s d o r b texts
+    → StatesValues s d o r b texts
     → StatesValues s d (Some (z, n)) r b (texts ++ text ∷ []) × (content_fault texts n (named_field (field_name Sizes) v) ≡ None)
 adds-sizes s d (Some p) z r b texts text v n o e x l h = absurd (false≢true (sym o))
 adds-sizes s d None z r b texts text v n o e x l h = (states-sizes s d z n r b texts text v e (sym x) l h, rw (h.counts, ← x) refl)
@@ -231,7 +230,7 @@ adds-encoding s d z false b texts text v n o e x h = (states-encoding s d z b te
 
 pub adds-endian :
     (s : Option Sample) (d : Option ℕ) (z : Option (counted.Sizes × ℕ)) (r : Bool) (o : Option Bool) (b : Bool) (texts : List (List ℕ))
-        (text v : List ℕ) (n : ℕ)
+    (text v : List ℕ) (n : ℕ)
     → is_some o ≡ false → content text ≡ named_field (field_name Endian) v → Some b ≡ lines.big_endian_of v → StatesValues s d z r o texts
     → StatesValues s d z r (Some b) (texts ++ text ∷ []) × (content_fault texts n (named_field (field_name Endian) v) ≡ None)
 adds-endian s d z r (Some p) b texts text v n o e x h = absurd (false≢true (sym o))
@@ -293,7 +292,7 @@ not_read-skip name low e = elim (or_cases (same_list (str_to_ascii_lowercase nam
 
 pub adds-skip :
     (s : Option Sample) (d : Option ℕ) (z : Option (counted.Sizes × ℕ)) (r : Bool) (b : Option Bool) (texts : List (List ℕ)) (text name v : List ℕ)
-        (n : ℕ)
+    (n : ℕ)
     → str_to_ascii_lowercase name ≡ name → is_among skip_names name ≡ true → is_zero v ≡ true → content text ≡ named_field name v → StatesValues s d z r b texts
     → StatesValues s d z r b (texts ++ text ∷ []) × (content_fault texts n (named_field name v) ≡ None)
 adds-skip s d z r b texts text name v n low a zero_value e h = (
@@ -303,7 +302,7 @@ adds-skip s d z r b texts text name v n low a zero_value e h = (
 
 pub adds-other :
     (s : Option Sample) (d : Option ℕ) (z : Option (counted.Sizes × ℕ)) (r : Bool) (b : Option Bool) (texts : List (List ℕ)) (text name v : List ℕ)
-        (n : ℕ)
+    (n : ℕ)
     → is_among skip_names name ≡ false → is_among data_file_names name ≡ false → NotRead name → content text ≡ named_field name v → StatesValues s d z r b texts
     → StatesValues s d z r b (texts ++ text ∷ []) × (content_fault texts n (named_field name v) ≡ None)
 adds-other s d z r b texts text name v n a f other e h = (
@@ -313,7 +312,7 @@ adds-other s d z r b texts text name v n a f other e h = (
 
 pub adds-passed :
     (s : Option Sample) (d : Option ℕ) (z : Option (counted.Sizes × ℕ)) (r : Bool) (b : Option Bool) (texts : List (List ℕ)) (text : List ℕ) (n : ℕ)
-        (k : Content)
+    (k : Content)
     → passed_over ≡ k → content text ≡ k → StatesValues s d z r b texts → StatesValues s d z r b (texts ++ text ∷ []) × (content_fault texts n k ≡ None)
 adds-passed s d z r b texts text n k p e h = (
   states-same s d z r b texts text (λ f. ap (value_if (field_name f)) (e ∙ sym p)) h,

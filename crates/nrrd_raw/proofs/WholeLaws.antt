@@ -7,7 +7,7 @@ use Rattle.std.specs.Option.{option_map_or}
 use Rattle.std.proofs.lemmas.Bool.{false≢true}
 use Rattle.std.proofs.lemmas.Bool.Decides.{nat_tests}
 use Rattle.iso_formats.specs.declared.Field.{Field}
-use Rattle.iso_formats.specs.declared.Field.TheVariants.{SampleType, Dimension, Sizes, Encoding, Endian}
+use Rattle.iso_formats.specs.declared.Field.TheVariants.{Dimension, Sizes, Endian}
 use Rattle.iso_formats.specs.HeaderLines as lines
 use Rattle.iso_formats.specs.HeaderLines.{values, field_name, is_empty, first_some, is_first_line, is_raw}
 use Rattle.iso_formats.specs.GridFile.{SpellHeader, is_sound_line}
@@ -16,7 +16,7 @@ use Rattle.nrrd_raw.specs.declared.values.Sample.{Sample}
 use Rattle.nrrd_raw.specs.declared.values.Sizes as counted
 use Rattle.nrrd_raw.specs.Shapes.{axes-stated, is_width}
 use Rattle.nrrd_raw.specs.Names.{sample_view, sizes_view}
-use Rattle.nrrd_raw.specs.States.{StatesValues, whole_fault}
+use Rattle.nrrd_raw.specs.States.{StatesValues}
 use Rattle.lists.proofs.Tests.{equal_of}
 use Rattle.iso_formats.proofs.HeaderLaws.{present_none}
 
@@ -47,7 +47,7 @@ needed_is : (s : Sample) (d : Option ℕ) (z : Option (counted.Sizes × ℕ)) (r
     → StatesValues (Some s) d z r b texts → is_needed texts Endian ≡ nat_lt 1 s.width
 needed_is s d z r b texts h =
     let known : stated_sample texts ≡ Some (sample_view s) =
-        ap (λ (vs : List (List ℕ)). lines.sample_of (slice_index_or vs 0 [])) h.sample_type.1 ∙ h.sample_type.2 in
+    ap (λ (vs : List (List ℕ)). lines.sample_of (slice_index_or vs 0 [])) h.sample_type.1 ∙ h.sample_type.2 in
     ap (λ (o : Option lines.Sample). option_map_or (λ (t : lines.Sample). nat_lt 1 t.width) o false) known
 
 and_left : (a b : Bool) → a && b ≡ true → a ≡ true
@@ -71,18 +71,18 @@ count_is : (s : Sample) (d : ℕ) (z : counted.Sizes) (n : ℕ) (b : Option Bool
 count_is s d z n b texts same h e =
     let r : ℕ → GridFault = λ k. wrong_sizes k in
     let a : lines.dimension_of (first_value Dimension texts) ≡ Some d =
-        ap (λ (vs : List (List ℕ)). lines.dimension_of (slice_index_or vs 0 [])) h.axes.1 ∙ h.axes.2 in
+    ap (λ (vs : List (List ℕ)). lines.dimension_of (slice_index_or vs 0 [])) h.axes.1 ∙ h.axes.2 in
     let c : lines.sizes_of (first_value Sizes texts) ≡ Some (sizes_view z) =
-        ap (λ (vs : List (List ℕ)). lines.sizes_of (slice_index_or vs 0 [])) h.counts.1 ∙ h.counts.2 in
+    ap (λ (vs : List (List ℕ)). lines.sizes_of (slice_index_or vs 0 [])) h.counts.1 ∙ h.counts.2 in
     ap
-        (λ (o : Option ℕ).
-             if option_map_or (λ d. option_map_or (λ (ns : List ℕ). length ns == d) (lines.sizes_of (first_value Sizes texts)) true) o true then None
-                 else Some (wrong_sizes (line_of (field_name Sizes) texts)))
-        a
+    (λ (o : Option ℕ).
+    if option_map_or (λ d. option_map_or (λ (ns : List ℕ). length ns == d) (lines.sizes_of (first_value Sizes texts)) true) o true then None
+    else Some (wrong_sizes (line_of (field_name Sizes) texts)))
+    a
     ∙ ap
-        (λ (o : Option (List ℕ)).
-             if option_map_or (λ (ns : List ℕ). length ns == d) o true then None else Some (wrong_sizes (line_of (field_name Sizes) texts)))
-        c
+    (λ (o : Option (List ℕ)).
+    if option_map_or (λ (ns : List ℕ). length ns == d) o true then None else Some (wrong_sizes (line_of (field_name Sizes) texts)))
+    c
     ∙ ap (λ (k : ℕ). if (k == d) then None else Some (wrong_sizes (line_of (field_name Sizes) texts))) (axes-stated z.count z.places z.shape)
     ∙ ap (λ (t : Bool). if t then None else Some (wrong_sizes (line_of (field_name Sizes) texts))) e
     ∙ ap (λ (k : ℕ). if same then None else Some (wrong_sizes k)) h.counts_line.0
@@ -101,8 +101,8 @@ order_is : (s : Sample) (d : ℕ) (z : counted.Sizes × ℕ) (b : Option Bool) (
     → (nat_lt 1 s.width && not (is_some b)) ≡ false → big ≡ (nat_lt 1 s.width && unwrap_or b false)
     → ((values (field_name Endian) texts ≡ []) × (s.width ≡ 1) × (big ≡ false))
     ⊎
-        ((value : List ℕ) × (order : Bool) × (values (field_name Endian) texts ≡ value ∷ []) × (lines.big_endian_of value ≡ Some order)
-             × (big ≡ (nat_lt 1 s.width && order)))
+    ((value : List ℕ) × (order : Bool) × (values (field_name Endian) texts ≡ value ∷ []) × (lines.big_endian_of value ≡ Some order)
+    × (big ≡ (nat_lt 1 s.width && order)))
 order_is s d z (Some x) texts big h o e = inr (h.order.0, x, h.order.1, h.order.2, e)
 order_is s d z None texts big h o e =
     let one = and_not (nat_lt 1 s.width) o in

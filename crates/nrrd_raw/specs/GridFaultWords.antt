@@ -1,18 +1,12 @@
 -- When a fault may be answered.
-use Rattle.std.specs.Prelude.{◌≡◌, ℕ, Bool, true, false, ⊤}
-use Rattle.iso_base.specs.Faults.{Rose}
+use Rattle.std.specs.Prelude.{ℕ, Bool, true, false, Option, Some, None}
 use Rattle.nrrd_raw.specs.declared.faults.GridFault.{GridFault}
 use Rattle.nrrd_raw.specs.declared.faults.GridFault.TheVariants.{TooLarge, DataShort, Trailing, Shelf, Memory}
 
--- a fault of the shelf comes only where its count rose, and holds the count after the call
-abbrev pub BlamesShelf : ℕ → ℕ → GridFault → Type 0
-BlamesShelf before now (Shelf count) = Rose before now × (count ≡ now)
-BlamesShelf before now fault = ⊤
-
--- the shelf is blamed
-abbrev pub is_shelf_fault : GridFault → Bool
-is_shelf_fault (Shelf count) = true
-is_shelf_fault fault = false
+-- the count with which a fault blames the shelf
+abbrev pub blame_of : GridFault → Option ℕ
+blame_of (Shelf count) = Some count
+blame_of fault = None
 
 -- a cause that a header may have, or the shelf is blamed
 abbrev pub is_header_fault : GridFault → Bool

@@ -1,13 +1,13 @@
 -- The bytes at the front of a file, while its header is taken.
 use Rattle.std.specs.Prelude.{◌≡◌, ◌⊎◌, ℕ, ◌<◌, ◌≤◌, true, false, List, [], ◌∷◌, ◌++◌, map, length, take, drop, slice_index, slice_index_or, flat_map}
-use Rattle.std.specs.Prelude.{codes, Option, IfSome, IsTrue}
+use Rattle.std.specs.Prelude.{codes, Option, IfSome, IsSome, IsTrue}
 use Rattle.std.specs.List.{AllPass}
 use Rattle.std.specs.Io.KnownBytes.{Consumes}
 use Rattle.lists.specs.Orders.{has}
 use Rattle.iso_formats.specs.HeaderLines.{Line, is_line, line_bytes, is_filled, HasLines, is_first_line, begins_right}
 use Rattle.nrrd_raw.specs.declared.faults.GridFault.{GridFault}
 use Rattle.nrrd_raw.specs.declared.faults.GridFault.TheVariants.{Magic}
-use Rattle.nrrd_raw.specs.GridFaultWords.{is_shelf_fault}
+use Rattle.nrrd_raw.specs.GridFaultWords.{blame_of}
 
 abbrev pub texts_of : List Line → List (List ℕ)
 texts_of ls = map (λ (l : Line). l.text) ls
@@ -41,11 +41,11 @@ pub record TakesFitting (old new : Option (List ℕ)) (least greatest : ℕ) (be
 -- the shelf is blamed, or the next byte is none of these, or is not there
 abbrev pub IsUnfit : Option (List ℕ) → ℕ → ℕ → GridFault → Type 0
 IsUnfit old least greatest fault =
-    IsTrue (is_shelf_fault fault) ⊎ ((fault ≡ Magic) × IfSome old (λ bytes. (slice_index bytes 0 < least) ⊎ (greatest < slice_index bytes 0)))
+    IsSome (blame_of fault) ⊎ ((fault ≡ Magic) × IfSome old (λ bytes. (slice_index bytes 0 < least) ⊎ (greatest < slice_index bytes 0)))
 
 -- the shelf is blamed, or the bytes begin with no first line
 abbrev pub IsNoBeginning : Option (List ℕ) → GridFault → Type 0
-IsNoBeginning old fault = IsTrue (is_shelf_fault fault) ⊎ ((fault ≡ Magic) × IfSome old (λ bytes. begins_right bytes ≡ false))
+IsNoBeginning old fault = IsSome (blame_of fault) ⊎ ((fault ≡ Magic) × IfSome old (λ bytes. begins_right bytes ≡ false))
 
 -- the least and the greatest first eight bytes
 abbrev pub least_first : List ℕ

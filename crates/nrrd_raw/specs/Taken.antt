@@ -1,11 +1,6 @@
 -- What a call takes of the rest of a file.
-use Rattle.std.specs.Prelude.{◌≡◌, ℕ, ◌<◌, ◌≤◌, List, [], ◌∷◌, length, take, drop, Option, Some, None, ⊤}
+use Rattle.std.specs.Prelude.{ℕ, ◌<◌, ◌≤◌, List, [], ◌∷◌, length, take, Option, Some, None}
 use Rattle.std.specs.Io.KnownBytes.{Consumes, IsAtEnd, Keeps}
-
--- where the rest is told, at most so many bytes were taken off its front
-abbrev pub TakesAtMost : ℕ → Option (List ℕ) → Option (List ℕ) → Type 0
-TakesAtMost most None new = ⊤
-TakesAtMost most (Some bytes) new = (count : ℕ) × (count ≤ most) × (count ≤ length bytes) × (new ≡ Some (drop count bytes))
 
 -- so many bytes came and stand at the front of the buffer, and where that is not full, the file has ended
 pub record FillsUp (old new : Option (List ℕ)) (buf : List ℕ) (count : ℕ) : Type 0 where

@@ -1,14 +1,14 @@
 //! The bytes of a header, as a shelf gives them.
 
-ghost use Rattle.std.specs.Prelude.{◌≡◌, ℕ, ◌+◌, ◌<◌, ◌≤◌, ◌==◌, [], length, IfSome, IfErr, OnOk, IsTrue, IsFalse};
+ghost use Rattle.std.specs.Prelude.{◌≡◌, ℕ, ◌+◌, ◌<◌, ◌≤◌, ◌==◌, [], length, IfSome, IfErr, OnOk, IsTrue, IsNone};
 ghost use Rattle.std.specs.Io.KnownBytes.{Consumes};
+ghost use Rattle.iso_base.specs.Shelves.{IsSameShelf, IsFairBlame, TakesAtMost};
 ghost use Rattle.arrayvec.specs.ArrayVec.{array_vec_len};
 ghost use Rattle.iso_formats.specs.GridFaults.{HasHeaderFault};
 ghost use Rattle.nrrd_raw.specs.FaultCauses.{cause_of};
 ghost use Rattle.nrrd_raw.specs.LineEnds as ends;
-ghost use Rattle.nrrd_raw.specs.GridFaultWords.{BlamesShelf, is_header_fault, is_shelf_fault};
+ghost use Rattle.nrrd_raw.specs.GridFaultWords.{is_header_fault, blame_of};
 ghost use Rattle.nrrd_raw.specs.HeaderFronts.{HasFront, IsFront, IsNoBeginning, IsUnfit, TakesFitting, FitsFirst};
-ghost use Rattle.nrrd_raw.specs.Taken.{TakesAtMost};
 
 use crate::faults::GridFault;
 use crate::lines::without_return;
@@ -30,11 +30,9 @@ pub(crate) fn take_front<S: Shelf>(
     front: &mut ArrayVec<u8, HEADER_LIMIT>,
 ) -> Result<(), GridFault>
     requires { front.old.items ≡ [] }
-    ensures faults { S.faults shelf.old ≤ S.faults shelf.new }
-    ensures stay { S.files shelf.new ≡ S.files shelf.old }
-    ensures sound_stays { S.sound shelf.old → S.sound shelf.new }
-    ensures blames { IfErr result (BlamesShelf (S.faults shelf.old) (S.faults shelf.new)) }
-    ensures sound { S.sound shelf.old → IfErr result (λ fault. IsFalse (is_shelf_fault fault)) }
+    ensures shelf { IsSameShelf S.faults S.files S.sound shelf.old shelf.new }
+    ensures blames { IfErr result (λ fault. IsFairBlame (S.faults shelf.old) (S.faults shelf.new) (blame_of fault)) }
+    ensures sound { S.sound shelf.old → IfErr result (λ fault. IsNone (blame_of fault)) }
     ensures causes { IfErr result (λ fault. IsTrue (is_header_fault fault)) }
     ensures taken { TakesAtMost 65536 (S.rest shelf.old) (S.rest shelf.new) }
     ensures came { OnOk result (Consumes (S.rest shelf.old) (S.rest shelf.new) front.new.items) }
@@ -74,11 +72,9 @@ fn take_first_line<S: Shelf>(
     front: &mut ArrayVec<u8, HEADER_LIMIT>,
 ) -> Result<(), GridFault>
     requires { front.old.items ≡ [] }
-    ensures faults { S.faults shelf.old ≤ S.faults shelf.new }
-    ensures stay { S.files shelf.new ≡ S.files shelf.old }
-    ensures sound_stays { S.sound shelf.old → S.sound shelf.new }
-    ensures blames { IfErr result (BlamesShelf (S.faults shelf.old) (S.faults shelf.new)) }
-    ensures sound { S.sound shelf.old → IfErr result (λ fault. IsFalse (is_shelf_fault fault)) }
+    ensures shelf { IsSameShelf S.faults S.files S.sound shelf.old shelf.new }
+    ensures blames { IfErr result (λ fault. IsFairBlame (S.faults shelf.old) (S.faults shelf.new) (blame_of fault)) }
+    ensures sound { S.sound shelf.old → IfErr result (λ fault. IsNone (blame_of fault)) }
     ensures causes { IfErr result (λ fault. IsTrue (is_header_fault fault)) }
     ensures taken { TakesAtMost 10 (S.rest shelf.old) (S.rest shelf.new) }
     ensures came { OnOk result (Consumes (S.rest shelf.old) (S.rest shelf.new) front.new.items) }
@@ -112,11 +108,9 @@ fn take_fitting<S: Shelf>(
 ) -> Result<(), GridFault>
     requires room { array_vec_len front.old < 65536 }
     requires some { 1 ≤ least }
-    ensures faults { S.faults shelf.old ≤ S.faults shelf.new }
-    ensures stay { S.files shelf.new ≡ S.files shelf.old }
-    ensures sound_stays { S.sound shelf.old → S.sound shelf.new }
-    ensures blames { IfErr result (BlamesShelf (S.faults shelf.old) (S.faults shelf.new)) }
-    ensures sound { S.sound shelf.old → IfErr result (λ fault. IsFalse (is_shelf_fault fault)) }
+    ensures shelf { IsSameShelf S.faults S.files S.sound shelf.old shelf.new }
+    ensures blames { IfErr result (λ fault. IsFairBlame (S.faults shelf.old) (S.faults shelf.new) (blame_of fault)) }
+    ensures sound { S.sound shelf.old → IfErr result (λ fault. IsNone (blame_of fault)) }
     ensures causes { IfErr result (λ fault. IsTrue (is_header_fault fault)) }
     ensures taken { TakesAtMost 1 (S.rest shelf.old) (S.rest shelf.new) }
     ensures fitting { OnOk result (TakesFitting (S.rest shelf.old) (S.rest shelf.new) least greatest front.old.items front.new.items) }

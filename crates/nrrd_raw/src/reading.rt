@@ -1,15 +1,15 @@
 //! Reading a grid file from a shelf.
 
-ghost use Rattle.std.specs.Prelude.{◌≡◌, ℕ, ◌++◌, IfSome, ◌+◌, ◌*◌, ◌≤◌, ◌<◌, ◌^◌, Result, Ok, Err, OnErr, IfOk, IfErr, OnOk, IsTrue, IsFalse, None, Some, All, length, vec_len};
+ghost use Rattle.std.specs.Prelude.{◌≡◌, ℕ, ◌++◌, IfSome, ◌+◌, ◌*◌, ◌≤◌, ◌<◌, ◌^◌, Result, Ok, Err, OnErr, IfOk, IfErr, OnOk, IsTrue, None, Some, All, length, vec_len, IsNone};
 ghost use Rattle.iso_model.specs.Values.{IsRegularGrid, product};
 ghost use Rattle.iso_formats.specs.GridFile.{IsRegularHeader, SpellsGrid, SpellsSamples, sample_limit, samples_of};
 ghost use Rattle.iso_formats.specs.GridFaults.{HasGridFault, HasHeaderFault, HasSampleFault};
 ghost use Rattle.std.specs.Io.KnownBytes.{IsAtEnd};
+ghost use Rattle.iso_base.specs.Shelves.{IsSameShelf, IsFairBlame, TakesAtMost};
 ghost use Rattle.nrrd_raw.specs.FaultCauses.{ReadsSamples, ReadsMore, IsCutOff, IsDataFault, cause_of};
-ghost use Rattle.nrrd_raw.specs.GridFaultWords.{BlamesShelf, is_shelf_fault, is_header_fault, is_sample_fault, is_data_fault, is_piece_fault};
+ghost use Rattle.nrrd_raw.specs.GridFaultWords.{blame_of, is_header_fault, is_sample_fault, is_data_fault, is_piece_fault};
 ghost use Rattle.nrrd_raw.specs.Headers.{HeaderIsRead};
 ghost use Rattle.nrrd_raw.specs.Shapes.{InRange};
-ghost use Rattle.nrrd_raw.specs.Taken.{TakesAtMost};
 
 use crate::decode::write_samples;
 use crate::faults::GridFault;
@@ -31,11 +31,9 @@ const PIECE: usize = 1 << 16;
 /// Reads the header at the front of the rest of the file that was begun. Takes its bytes one at a time, and none
 /// behind its end. Takes no memory.
 pub fn read_header<S: Shelf>(shelf: &mut S) -> Result<Header, GridFault>
-    ensures faults { S.faults shelf.old ≤ S.faults shelf.new }
-    ensures stay { S.files shelf.new ≡ S.files shelf.old }
-    ensures sound_stays { S.sound shelf.old → S.sound shelf.new }
-    ensures blames { IfErr result (BlamesShelf (S.faults shelf.old) (S.faults shelf.new)) }
-    ensures sound { S.sound shelf.old → IfErr result (λ fault. IsFalse (is_shelf_fault fault)) }
+    ensures shelf { IsSameShelf S.faults S.files S.sound shelf.old shelf.new }
+    ensures blames { IfErr result (λ fault. IsFairBlame (S.faults shelf.old) (S.faults shelf.new) (blame_of fault)) }
+    ensures sound { S.sound shelf.old → IfErr result (λ fault. IsNone (blame_of fault)) }
     ensures causes { IfErr result (λ fault. IsTrue (is_header_fault fault)) }
     ensures taken { TakesAtMost 65536 (S.rest shelf.old) (S.rest shelf.new) }
     ensures read { IfOk result (HeaderIsRead (S.rest shelf.old) (S.rest shelf.new)) }
@@ -54,11 +52,9 @@ pub fn read_samples<S: Shelf>(
     header: &Header,
 ) -> Result<Grid, GridFault>
     requires { IsRegularHeader header.now }
-    ensures faults { S.faults shelf.old ≤ S.faults shelf.new }
-    ensures stay { S.files shelf.new ≡ S.files shelf.old }
-    ensures sound_stays { S.sound shelf.old → S.sound shelf.new }
-    ensures blames { IfErr result (BlamesShelf (S.faults shelf.old) (S.faults shelf.new)) }
-    ensures sound { S.sound shelf.old → IfErr result (λ fault. IsFalse (is_shelf_fault fault)) }
+    ensures shelf { IsSameShelf S.faults S.files S.sound shelf.old shelf.new }
+    ensures blames { IfErr result (λ fault. IsFairBlame (S.faults shelf.old) (S.faults shelf.new) (blame_of fault)) }
+    ensures sound { S.sound shelf.old → IfErr result (λ fault. IsNone (blame_of fault)) }
     ensures causes { IfErr result (λ fault. IsTrue (is_sample_fault fault)) }
     ensures large_alone { sample_limit < product header.now.sizes → result ≡ Err (GridFault.TooLarge (product header.now.sizes)) }
     ensures large_only { (count : ℕ) → result ≡ Err (GridFault.TooLarge count) → (sample_limit < product header.now.sizes) × (count ≡ product header.now.sizes) }
@@ -107,11 +103,9 @@ fn take_samples<S: Shelf>(
 ) -> Result<Vec<i64>, GridFault>
     requires regular { IsRegularHeader header.now }
     requires few { count ≤ 2 ^ 27 }
-    ensures faults { S.faults shelf.old ≤ S.faults shelf.new }
-    ensures stay { S.files shelf.new ≡ S.files shelf.old }
-    ensures sound_stays { S.sound shelf.old → S.sound shelf.new }
-    ensures blames { IfErr result (BlamesShelf (S.faults shelf.old) (S.faults shelf.new)) }
-    ensures sound { S.sound shelf.old → IfErr result (λ fault. IsFalse (is_shelf_fault fault)) }
+    ensures shelf { IsSameShelf S.faults S.files S.sound shelf.old shelf.new }
+    ensures blames { IfErr result (λ fault. IsFairBlame (S.faults shelf.old) (S.faults shelf.new) (blame_of fault)) }
+    ensures sound { S.sound shelf.old → IfErr result (λ fault. IsNone (blame_of fault)) }
     ensures causes { IfErr result (λ fault. IsTrue (is_data_fault fault)) }
     ensures taken { TakesAtMost (count * header.now.width + 1) (S.rest shelf.old) (S.rest shelf.new) }
     ensures count { IfOk result (λ samples. vec_len samples ≡ count) }
@@ -153,11 +147,9 @@ fn take_piece<S: Shelf>(
     requires whole { length piece.old ≡ more * header.now.width }
     requires room { vec_len samples.old + more ≤ count }
     requires few { count ≤ 2 ^ 27 }
-    ensures faults { S.faults shelf.old ≤ S.faults shelf.new }
-    ensures stay { S.files shelf.new ≡ S.files shelf.old }
-    ensures sound_stays { S.sound shelf.old → S.sound shelf.new }
-    ensures blames { IfErr result (BlamesShelf (S.faults shelf.old) (S.faults shelf.new)) }
-    ensures sound { S.sound shelf.old → IfErr result (λ fault. IsFalse (is_shelf_fault fault)) }
+    ensures shelf { IsSameShelf S.faults S.files S.sound shelf.old shelf.new }
+    ensures blames { IfErr result (λ fault. IsFairBlame (S.faults shelf.old) (S.faults shelf.new) (blame_of fault)) }
+    ensures sound { S.sound shelf.old → IfErr result (λ fault. IsNone (blame_of fault)) }
     ensures causes { IfErr result (λ fault. IsTrue (is_piece_fault fault)) }
     ensures taken { TakesAtMost (length piece.new) (S.rest shelf.old) (S.rest shelf.new) }
     ensures len { OnOk result (vec_len samples.new ≡ vec_len samples.old + more) }
@@ -216,11 +208,9 @@ fn make_room(samples: &mut Vec<i64>, more: usize, count: usize) -> Result<(), Gr
 
 /// Reads a whole grid file that was begun: its header, and the samples behind it.
 pub fn read_grid<S: Shelf>(alloc: Global, shelf: &mut S) -> Result<Grid, GridFault>
-    ensures faults { S.faults shelf.old ≤ S.faults shelf.new }
-    ensures stay { S.files shelf.new ≡ S.files shelf.old }
-    ensures sound_stays { S.sound shelf.old → S.sound shelf.new }
-    ensures blames { IfErr result (BlamesShelf (S.faults shelf.old) (S.faults shelf.new)) }
-    ensures sound { S.sound shelf.old → IfErr result (λ fault. IsFalse (is_shelf_fault fault)) }
+    ensures shelf { IsSameShelf S.faults S.files S.sound shelf.old shelf.new }
+    ensures blames { IfErr result (λ fault. IsFairBlame (S.faults shelf.old) (S.faults shelf.new) (blame_of fault)) }
+    ensures sound { S.sound shelf.old → IfErr result (λ fault. IsNone (blame_of fault)) }
     ensures spelled { IfSome (S.rest shelf.old) (λ bytes. IfOk result (SpellsGrid bytes)) }
     ensures cause { IfSome (S.rest shelf.old) (λ bytes. IfErr result (λ fault. IfSome (cause_of fault) (HasGridFault bytes))) }
     ensures whole { OnOk result (IsAtEnd (S.rest shelf.new)) }

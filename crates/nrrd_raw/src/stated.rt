@@ -23,13 +23,13 @@ pub(crate) struct Stated {
 }
 
 impl Stated {
-    ghost use Rattle.std.specs.Prelude.{◌≡◌, ℕ, ◌+◌, ◌≤◌, false, List, [], length, drop, slice_index_or, is_some, IfErr, IfOk, IsTrue, IsFalse, None};
+    ghost use Rattle.std.specs.Prelude.{◌≡◌, ℕ, ◌+◌, ◌≤◌, false, List, [], length, drop, slice_index_or, is_some, IfErr, IfOk, IsTrue, IsNone, None};
     ghost use Rattle.std.specs.List.{AllPass};
     ghost use Rattle.std.specs.Str.{str_to_ascii_lowercase};
     ghost use Rattle.iso_formats.specs.declared.Field.TheVariants as field;
     ghost use Rattle.iso_formats.specs.HeaderLines as lines;
     ghost use Rattle.iso_formats.specs.GridFile.{IsRegularHeader, SpellHeader, is_sound_line};
-    ghost use Rattle.nrrd_raw.specs.GridFaultWords.{is_header_fault, is_shelf_fault};
+    ghost use Rattle.nrrd_raw.specs.GridFaultWords.{is_header_fault, blame_of};
     ghost use Rattle.nrrd_raw.specs.FaultCauses.{cause_of};
     ghost use Rattle.nrrd_raw.specs.States.{States, AddsLine, HasCause, has_field, whole_fault};
 
@@ -49,7 +49,7 @@ impl Stated {
     /// With a line more, or its cause.
     pub(crate) fn with_line(self, number: u32, text: &[u8]) -> Result<Stated, GridFault>
         ensures causes { IfErr result (λ fault. IsTrue (is_header_fault fault)) }
-        ensures form { IfErr result (λ fault. IsFalse (is_shelf_fault fault)) }
+        ensures form { IfErr result (λ fault. IsNone (blame_of fault)) }
         ensures kept { IfOk result (λ next. AddsLine self next number (lines.content text.now)) }
         ensures cause { IfErr result (HasCause self number (lines.content text.now)) }
     {
@@ -62,7 +62,7 @@ impl Stated {
 
     fn with_field(self, number: u32, name: &[u8], value: &[u8]) -> Result<Stated, GridFault>
         ensures causes { IfErr result (λ fault. IsTrue (is_header_fault fault)) }
-        ensures form { IfErr result (λ fault. IsFalse (is_shelf_fault fault)) }
+        ensures form { IfErr result (λ fault. IsNone (blame_of fault)) }
         ensures kept { IfOk result (λ next. AddsLine self next number (lines.named_field (str_to_ascii_lowercase name.now) value.now)) }
         ensures cause { IfErr result (HasCause self number (lines.named_field (str_to_ascii_lowercase name.now) value.now)) }
     {
@@ -101,7 +101,7 @@ impl Stated {
     fn with_value(self, number: u32, field: Field, value: &[u8]) -> Result<Stated, GridFault>
         requires { has_field self field ≡ false }
         ensures causes { IfErr result (λ fault. IsTrue (is_header_fault fault)) }
-        ensures form { IfErr result (λ fault. IsFalse (is_shelf_fault fault)) }
+        ensures form { IfErr result (λ fault. IsNone (blame_of fault)) }
         ensures kept { IfOk result (λ next. AddsLine self next number (lines.named_field (lines.field_name field) value.now)) }
         ensures cause { IfErr result (HasCause self number (lines.named_field (lines.field_name field) value.now)) }
     {
@@ -117,7 +117,7 @@ impl Stated {
     fn with_sample_type(self, number: u32, value: &[u8]) -> Result<Stated, GridFault>
         requires { is_some self.sample ≡ false }
         ensures causes { IfErr result (λ fault. IsTrue (is_header_fault fault)) }
-        ensures form { IfErr result (λ fault. IsFalse (is_shelf_fault fault)) }
+        ensures form { IfErr result (λ fault. IsNone (blame_of fault)) }
         ensures kept { IfOk result (λ next. AddsLine self next number (lines.named_field (lines.field_name field.SampleType) value.now)) }
         ensures cause { IfErr result (HasCause self number (lines.named_field (lines.field_name field.SampleType) value.now)) }
     {
@@ -136,7 +136,7 @@ impl Stated {
     fn with_dimension(self, number: u32, value: &[u8]) -> Result<Stated, GridFault>
         requires { is_some self.dimension ≡ false }
         ensures causes { IfErr result (λ fault. IsTrue (is_header_fault fault)) }
-        ensures form { IfErr result (λ fault. IsFalse (is_shelf_fault fault)) }
+        ensures form { IfErr result (λ fault. IsNone (blame_of fault)) }
         ensures kept { IfOk result (λ next. AddsLine self next number (lines.named_field (lines.field_name field.Dimension) value.now)) }
         ensures cause { IfErr result (HasCause self number (lines.named_field (lines.field_name field.Dimension) value.now)) }
     {
@@ -155,7 +155,7 @@ impl Stated {
     fn with_sizes(self, number: u32, value: &[u8]) -> Result<Stated, GridFault>
         requires { is_some self.sizes ≡ false }
         ensures causes { IfErr result (λ fault. IsTrue (is_header_fault fault)) }
-        ensures form { IfErr result (λ fault. IsFalse (is_shelf_fault fault)) }
+        ensures form { IfErr result (λ fault. IsNone (blame_of fault)) }
         ensures kept { IfOk result (λ next. AddsLine self next number (lines.named_field (lines.field_name field.Sizes) value.now)) }
         ensures cause { IfErr result (HasCause self number (lines.named_field (lines.field_name field.Sizes) value.now)) }
     {
@@ -174,7 +174,7 @@ impl Stated {
     fn with_encoding(self, number: u32, value: &[u8]) -> Result<Stated, GridFault>
         requires { self.raw ≡ false }
         ensures causes { IfErr result (λ fault. IsTrue (is_header_fault fault)) }
-        ensures form { IfErr result (λ fault. IsFalse (is_shelf_fault fault)) }
+        ensures form { IfErr result (λ fault. IsNone (blame_of fault)) }
         ensures kept { IfOk result (λ next. AddsLine self next number (lines.named_field (lines.field_name field.Encoding) value.now)) }
         ensures cause { IfErr result (HasCause self number (lines.named_field (lines.field_name field.Encoding) value.now)) }
     {
@@ -193,7 +193,7 @@ impl Stated {
     fn with_endian(self, number: u32, value: &[u8]) -> Result<Stated, GridFault>
         requires { is_some self.big ≡ false }
         ensures causes { IfErr result (λ fault. IsTrue (is_header_fault fault)) }
-        ensures form { IfErr result (λ fault. IsFalse (is_shelf_fault fault)) }
+        ensures form { IfErr result (λ fault. IsNone (blame_of fault)) }
         ensures kept { IfOk result (λ next. AddsLine self next number (lines.named_field (lines.field_name field.Endian) value.now)) }
         ensures cause { IfErr result (HasCause self number (lines.named_field (lines.field_name field.Endian) value.now)) }
     {
@@ -213,7 +213,7 @@ impl Stated {
     /// dimension.
     pub(crate) fn header(self) -> Result<Header, GridFault>
         ensures causes { IfErr result (λ fault. IsTrue (is_header_fault fault)) }
-        ensures form { IfErr result (λ fault. IsFalse (is_shelf_fault fault)) }
+        ensures form { IfErr result (λ fault. IsNone (blame_of fault)) }
         ensures regular { IfOk result IsRegularHeader }
         ensures whole { IfOk result (λ header. (texts : List (List ℕ)) → States self texts → whole_fault texts ≡ None) }
         ensures spelled { IfOk result (λ header. (texts : List (List ℕ)) → States self texts → AllPass is_sound_line (drop 1 texts)

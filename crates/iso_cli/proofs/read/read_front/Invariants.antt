@@ -1,6 +1,6 @@
 use Rattle.std.proofs.Common.{◌≡◌, ◌≤◌, length, ◌-◌}
 use Rattle.std.specs.Io.KnownBytes.{Consumes}
-use Rattle.iso_cli.specs.Shelves.{IsSameShelf}
+use Rattle.iso_base.specs.Shelves.{IsSameShelf}
 use Rattle.iso_cli.proofs.read.read_front.Given as goal
 
 -- the bytes so far were taken off the front, and are few enough

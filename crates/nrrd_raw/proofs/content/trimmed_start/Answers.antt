@@ -15,6 +15,6 @@ returns c =
     let all : c.loop-at.at ≡ length c.args.text.now = omega arith in
     take_rest c.args.text.now (length c.args.text.now)
     ∙ ap (λ n. drop n c.args.text.now)
-        (sym
-             (prefix_len_is is_blank c.args.text.now (length c.args.text.now) 0 (omega arith) (rw all at c.loop-at.invariant)
-                  (λ h. absurd (omega arith))))
+    (sym
+    (prefix_len_is is_blank c.args.text.now (length c.args.text.now) 0 (omega arith) (rw all at c.loop-at.invariant)
+    (λ h. absurd (omega arith))))

@@ -11,7 +11,7 @@ returns-in-1-true-clause-values c =
     let w : h.width ≡ 1 = sym (ap (λ (k : Header). k.width) c.header.view_is) ∙ c.in-1-true.is-0 in
     let s : h.signed ≡ true = sym (ap (λ (k : Header). k.signed) c.header.view_is) ∙ c.in-1-true.is-1 in
     samples_spelled h _ 1 _ _ _ w (search rules) (rw w at c.requires.whole) (λ k. let f = c.type_inv.piece k in omega arith) (spells-signed_8 h w s)
-        c.write_as.ensures.values
+    c.write_as.ensures.values
 
 pub returns-in-1-false-clause-values : goal.returns-in-1-false-clause-values
 returns-in-1-false-clause-values c =
@@ -19,7 +19,7 @@ returns-in-1-false-clause-values c =
     let w : h.width ≡ 1 = sym (ap (λ (k : Header). k.width) c.header.view_is) ∙ c.in-1-false.is-0 in
     let s : h.signed ≡ false = sym (ap (λ (k : Header). k.signed) c.header.view_is) ∙ c.in-1-false.is-1 in
     samples_spelled h _ 1 _ _ _ w (search rules) (rw w at c.requires.whole) (λ k. let f = c.type_inv.piece k in omega arith) (spells-unsigned_8 h s)
-        c.write_as-in-1-false.ensures.values
+    c.write_as-in-1-false.ensures.values
 
 pub returns-in-2-true-clause-values : goal.returns-in-2-true-clause-values
 returns-in-2-true-clause-values c =
@@ -28,7 +28,7 @@ returns-in-2-true-clause-values c =
     let s : h.signed ≡ true = sym (ap (λ (k : Header). k.signed) c.header.view_is) ∙ c.in-2-true.is-1 in
     let o : h.big ≡ true = sym (ap (λ (k : Header). k.big) c.header.view_is) ∙ c.if-header-2.true in
     samples_spelled h _ 2 _ _ _ w (search rules) (rw w at c.requires.whole) (λ k. let f = c.type_inv.piece k in omega arith)
-        (spells-signed_16_big h w s o) c.write_as-in-2-true.ensures.values
+    (spells-signed_16_big h w s o) c.write_as-in-2-true.ensures.values
 
 pub returns-in-2-true-2-clause-values : goal.returns-in-2-true-2-clause-values
 returns-in-2-true-2-clause-values c =
@@ -37,7 +37,7 @@ returns-in-2-true-2-clause-values c =
     let s : h.signed ≡ true = sym (ap (λ (k : Header). k.signed) c.header.view_is) ∙ c.in-2-true.is-1 in
     let o : h.big ≡ false = sym (ap (λ (k : Header). k.big) c.header.view_is) ∙ c.if-header-2.false in
     samples_spelled h _ 2 _ _ _ w (search rules) (rw w at c.requires.whole) (λ k. let f = c.type_inv.piece k in omega arith)
-        (spells-signed_16_little h w s o) c.write_as-in-2-true-2.ensures.values
+    (spells-signed_16_little h w s o) c.write_as-in-2-true-2.ensures.values
 
 pub returns-in-2-false-clause-values : goal.returns-in-2-false-clause-values
 returns-in-2-false-clause-values c =
@@ -46,7 +46,7 @@ returns-in-2-false-clause-values c =
     let s : h.signed ≡ false = sym (ap (λ (k : Header). k.signed) c.header.view_is) ∙ c.in-2-false.is-1 in
     let o : h.big ≡ true = sym (ap (λ (k : Header). k.big) c.header.view_is) ∙ c.if-header-3.true in
     samples_spelled h _ 2 _ _ _ w (search rules) (rw w at c.requires.whole) (λ k. let f = c.type_inv.piece k in omega arith)
-        (spells-unsigned_16_big h s o) c.write_as-in-2-false.ensures.values
+    (spells-unsigned_16_big h s o) c.write_as-in-2-false.ensures.values
 
 pub returns-in-2-false-2-clause-values : goal.returns-in-2-false-2-clause-values
 returns-in-2-false-2-clause-values c =
@@ -55,7 +55,7 @@ returns-in-2-false-2-clause-values c =
     let s : h.signed ≡ false = sym (ap (λ (k : Header). k.signed) c.header.view_is) ∙ c.in-2-false.is-1 in
     let o : h.big ≡ false = sym (ap (λ (k : Header). k.big) c.header.view_is) ∙ c.if-header-3.false in
     samples_spelled h _ 2 _ _ _ w (search rules) (rw w at c.requires.whole) (λ k. let f = c.type_inv.piece k in omega arith)
-        (spells-unsigned_16_little h s o) c.write_as-in-2-false-2.ensures.values
+    (spells-unsigned_16_little h s o) c.write_as-in-2-false-2.ensures.values
 
 pub returns-in_default-true-clause-values : goal.returns-in_default-true-clause-values
 returns-in_default-true-clause-values c =
@@ -65,7 +65,7 @@ returns-in_default-true-clause-values c =
     let s : h.signed ≡ true = sym (ap (λ (k : Header). k.signed) c.header.view_is) ∙ c.in_default-true.is-1 in
     let o : h.big ≡ true = sym (ap (λ (k : Header). k.big) c.header.view_is) ∙ c.if-header-4.true in
     samples_spelled h _ 4 _ _ _ w (search rules) (rw w at c.requires.whole) (λ k. let f = c.type_inv.piece k in omega arith)
-        (spells-signed_32_big h w s o) c.write_as-in_default-true.ensures.values
+    (spells-signed_32_big h w s o) c.write_as-in_default-true.ensures.values
 
 pub returns-in_default-true-2-clause-values : goal.returns-in_default-true-2-clause-values
 returns-in_default-true-2-clause-values c =
@@ -75,7 +75,7 @@ returns-in_default-true-2-clause-values c =
     let s : h.signed ≡ true = sym (ap (λ (k : Header). k.signed) c.header.view_is) ∙ c.in_default-true.is-1 in
     let o : h.big ≡ false = sym (ap (λ (k : Header). k.big) c.header.view_is) ∙ c.if-header-4.false in
     samples_spelled h _ 4 _ _ _ w (search rules) (rw w at c.requires.whole) (λ k. let f = c.type_inv.piece k in omega arith)
-        (spells-signed_32_little h w s o) c.write_as-in_default-true-2.ensures.values
+    (spells-signed_32_little h w s o) c.write_as-in_default-true-2.ensures.values
 
 pub returns-in_default-false-clause-values : goal.returns-in_default-false-clause-values
 returns-in_default-false-clause-values c =
@@ -85,7 +85,7 @@ returns-in_default-false-clause-values c =
     let s : h.signed ≡ false = sym (ap (λ (k : Header). k.signed) c.header.view_is) ∙ c.in_default-false.is-1 in
     let o : h.big ≡ true = sym (ap (λ (k : Header). k.big) c.header.view_is) ∙ c.if-header-5.true in
     samples_spelled h _ 4 _ _ _ w (search rules) (rw w at c.requires.whole) (λ k. let f = c.type_inv.piece k in omega arith)
-        (spells-unsigned_32_big h s o) c.write_as-in_default-false.ensures.values
+    (spells-unsigned_32_big h s o) c.write_as-in_default-false.ensures.values
 
 pub returns-in_default-false-2-clause-values : goal.returns-in_default-false-2-clause-values
 returns-in_default-false-2-clause-values c =
@@ -95,4 +95,4 @@ returns-in_default-false-2-clause-values c =
     let s : h.signed ≡ false = sym (ap (λ (k : Header). k.signed) c.header.view_is) ∙ c.in_default-false.is-1 in
     let o : h.big ≡ false = sym (ap (λ (k : Header). k.big) c.header.view_is) ∙ c.if-header-5.false in
     samples_spelled h _ 4 _ _ _ w (search rules) (rw w at c.requires.whole) (λ k. let f = c.type_inv.piece k in omega arith)
-        (spells-unsigned_32_little h s o) c.write_as-in_default-false-2.ensures.values
+    (spells-unsigned_32_little h s o) c.write_as-in_default-false-2.ensures.values

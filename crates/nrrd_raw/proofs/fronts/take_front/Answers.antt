@@ -5,6 +5,7 @@ use Rattle.std.proofs.lemmas.List.{take_rest}
 use Rattle.std.proofs.lemmas.Result.{err_from_is_err_and}
 use Rattle.std.specs.Io.KnownBytes.{Consumes, Keeps, IsAtEnd}
 use Rattle.std.proofs.KnownBytes.{Consumes-trans, Consumes-kept}
+use Rattle.iso_base.proofs.SameShelf.{IsSameShelf-then}
 use Rattle.nrrd_raw.specs.LineEnds.{without_return}
 use Rattle.nrrd_raw.specs.HeaderFronts.{HasFront, IsFront}
 use Rattle.nrrd_raw.proofs.TakenLaws.{TakesAtMost-consumed}
@@ -24,13 +25,13 @@ returns-in_err-byte-clause-taken g c =
 pub returns-in_default-clause-taken : goal.returns-in_default-clause-taken
 returns-in_default-clause-taken g c =
     let t : Keeps (g.S.Shelf.rest c.bytes.shelf) (g.S.Shelf.rest c.take_byte.new.shelf) × IsAtEnd (g.S.Shelf.rest c.take_byte.new.shelf) =
-        rw c.in_default.is at c.in_ok-byte.ensures.byte in
+    rw c.in_default.is at c.in_ok-byte.ensures.byte in
     TakesAtMost-consumed 65536 _ _ c.bytes.front.items (Consumes-kept _ _ _ _ c.bytes.invariant.came t.0) c.bytes.invariant.short
 
 pub returns-in_default-clause-cause : goal.returns-in_default-clause-cause
 returns-in_default-clause-cause g c =
     let t : Keeps (g.S.Shelf.rest c.bytes.shelf) (g.S.Shelf.rest c.take_byte.new.shelf) × IsAtEnd (g.S.Shelf.rest c.take_byte.new.shelf) =
-        rw c.in_default.is at c.in_ok-byte.ensures.byte in
+    rw c.in_default.is at c.in_ok-byte.ensures.byte in
     let few : length c.bytes.front.items < 65536 = search rules in
     front-unended (g.S.Shelf.rest c.args.shelf.now) (g.S.Shelf.rest c.take_byte.new.shelf) c.bytes.front.items c.bytes.start c.bytes.invariant.begun
     (Consumes-kept _ _ _ _ c.bytes.invariant.came t.0) t.1 few
@@ -38,16 +39,16 @@ returns-in_default-clause-cause g c =
 pub returns-then-ends-clause-taken : goal.returns-then-ends-clause-taken
 returns-then-ends-clause-taken g c =
     let byte : Consumes (g.S.Shelf.rest c.bytes.shelf) (g.S.Shelf.rest c.take_byte.new.shelf) (c.in-Some.byte ∷ []) =
-        rw c.in-Some.is at c.in_ok-byte.ensures.byte in
+    rw c.in-Some.is at c.in_ok-byte.ensures.byte in
     let len : length (c.bytes.front.items ++ c.in-Some.byte ∷ []) ≤ 65536 = search rules in
     TakesAtMost-consumed 65536 _ _ (c.bytes.front.items ++ c.in-Some.byte ∷ []) (Consumes-trans _ _ _ _ _ c.bytes.invariant.came byte) len
 
 pub returns-then-ends-clause-came : goal.returns-then-ends-clause-came
 returns-then-ends-clause-came g c =
     let byte : Consumes (g.S.Shelf.rest c.bytes.shelf) (g.S.Shelf.rest c.take_byte.new.shelf) (c.in-Some.byte ∷ []) =
-        rw c.in-Some.is at c.in_ok-byte.ensures.byte in
+    rw c.in-Some.is at c.in_ok-byte.ensures.byte in
     subst (λ (bs : List ℕ). Consumes (g.S.Shelf.rest c.args.shelf.now) (g.S.Shelf.rest c.take_byte.new.shelf) bs) (sym c.push.ensures.items)
-        (Consumes-trans _ _ _ _ _ c.bytes.invariant.came byte)
+    (Consumes-trans _ _ _ _ _ c.bytes.invariant.came byte)
 
 pub returns-then-ends-clause-whole : goal.returns-then-ends-clause-whole
 returns-then-ends-clause-whole g c =
@@ -55,32 +56,30 @@ returns-then-ends-clause-whole g c =
     let ten : c.in-Some.byte ≡ 10 = c.if-byte-eq10.true in
     let test : (length (without_return (drop c.bytes.start c.bytes.front.items)) == 0) ≡ true =
     sym
-        (c.is_empty_line-ends.ensures
-             ∙ ap (λ t. length (without_return t) == 0) (take_rest c.deref.result.now c.bytes.start ∙ ap (drop c.bytes.start) c.deref.ensures.0))
-        ∙ c.if-ends.true in
+    (c.is_empty_line-ends.ensures
+    ∙ ap (λ t. length (without_return t) == 0) (take_rest c.deref.result.now c.bytes.start ∙ ap (drop c.bytes.start) c.deref.ensures.0))
+    ∙ c.if-ends.true in
     subst IsFront (sym (c.push.ensures.items ∙ ap (λ (b : ℕ). c.bytes.front.items ++ b ∷ []) ten))
-        (is_front c.bytes.front.items c.bytes.start c.bytes.invariant.begun test few)
+    (is_front c.bytes.front.items c.bytes.start c.bytes.invariant.begun test few)
 
 pub bytes-preserved-then-byte-eq10 : goal.bytes-preserved-then-byte-eq10
 bytes-preserved-then-byte-eq10 g c =
     let byte : Consumes (g.S.Shelf.rest c.bytes.shelf) (g.S.Shelf.rest c.take_byte.new.shelf) (c.in-Some.byte ∷ []) =
-        rw c.in-Some.is at c.in_ok-byte.ensures.byte in
+    rw c.in-Some.is at c.in_ok-byte.ensures.byte in
     let ten : c.in-Some.byte ≡ 10 = c.if-byte-eq10.true in
     let test : (length (without_return (drop c.bytes.start c.bytes.front.items)) == 0) ≡ false =
     sym
-        (c.is_empty_line-ends.ensures
-             ∙ ap (λ t. length (without_return t) == 0) (take_rest c.deref.result.now c.bytes.start ∙ ap (drop c.bytes.start) c.deref.ensures.0))
-        ∙ c.if-ends.false in
+    (c.is_empty_line-ends.ensures
+    ∙ ap (λ t. length (without_return t) == 0) (take_rest c.deref.result.now c.bytes.start ∙ ap (drop c.bytes.start) c.deref.ensures.0))
+    ∙ c.if-ends.false in
     let whole = c.push.ensures.items ∙ ap (λ (b : ℕ). c.bytes.front.items ++ b ∷ []) ten in
     let len : length c.push.new.self.items ≡ c.len-start-then-byte-eq10.result = search rules in
     record {
-      later = omega (arith, c.in_ok-byte.ensures.faults, c.bytes.invariant.later);
-      stays = c.in_ok-byte.ensures.stay ∙ c.bytes.invariant.stays;
-      sound_stays = λ s. c.in_ok-byte.ensures.sound_stays (c.bytes.invariant.sound_stays s);
+      same = IsSameShelf-then _ _ _ _ _ _ c.bytes.invariant.same c.in_ok-byte.ensures.shelf;
       short = search rules;
       came =
           subst (λ (bs : List ℕ). Consumes (g.S.Shelf.rest c.args.shelf.now) (g.S.Shelf.rest c.take_byte.new.shelf) bs) (sym c.push.ensures.items)
-              (Consumes-trans _ _ _ _ _ c.bytes.invariant.came byte);
+          (Consumes-trans _ _ _ _ _ c.bytes.invariant.came byte);
       begun = subst (λ (i : ℕ). HasFront c.push.new.self.items i) len
           (subst (λ (xs : List ℕ). HasFront xs (length xs)) (sym whole) (front-line c.bytes.front.items c.bytes.start c.bytes.invariant.begun test));
     }
@@ -88,19 +87,17 @@ bytes-preserved-then-byte-eq10 g c =
 pub bytes-preserved : goal.bytes-preserved
 bytes-preserved g c =
     let byte : Consumes (g.S.Shelf.rest c.bytes.shelf) (g.S.Shelf.rest c.take_byte.new.shelf) (c.in-Some.byte ∷ []) =
-        rw c.in-Some.is at c.in_ok-byte.ensures.byte in
+    rw c.in-Some.is at c.in_ok-byte.ensures.byte in
     let other : nat_eq 10 c.in-Some.byte ≡ false = grind (arith, nat_tests, c.if-byte-eq10.false) in
     record {
-      later = omega (arith, c.in_ok-byte.ensures.faults, c.bytes.invariant.later);
-      stays = c.in_ok-byte.ensures.stay ∙ c.bytes.invariant.stays;
-      sound_stays = λ s. c.in_ok-byte.ensures.sound_stays (c.bytes.invariant.sound_stays s);
+      same = IsSameShelf-then _ _ _ _ _ _ c.bytes.invariant.same c.in_ok-byte.ensures.shelf;
       short = search rules;
       came =
           subst (λ (bs : List ℕ). Consumes (g.S.Shelf.rest c.args.shelf.now) (g.S.Shelf.rest c.take_byte.new.shelf) bs)
-              (sym c.push-else-byte-eq10.ensures.items) (Consumes-trans _ _ _ _ _ c.bytes.invariant.came byte);
+          (sym c.push-else-byte-eq10.ensures.items) (Consumes-trans _ _ _ _ _ c.bytes.invariant.came byte);
       begun =
           subst (λ (xs : List ℕ). HasFront xs c.bytes.start) (sym c.push-else-byte-eq10.ensures.items)
-              (front-byte c.bytes.front.items c.bytes.start c.in-Some.byte c.bytes.invariant.begun other);
+          (front-byte c.bytes.front.items c.bytes.start c.in-Some.byte c.bytes.invariant.begun other);
     }
 
 pub returns-clause-taken : goal.returns-clause-taken
@@ -110,4 +107,4 @@ pub returns-clause-cause : goal.returns-clause-cause
 returns-clause-cause g c =
     let all : 65536 ≤ length c.bytes.front.items = search rules in
     front-long (g.S.Shelf.rest c.args.shelf.now) (g.S.Shelf.rest c.bytes.shelf) c.bytes.front.items c.bytes.start c.bytes.invariant.begun
-        c.bytes.invariant.came all
+    c.bytes.invariant.came all

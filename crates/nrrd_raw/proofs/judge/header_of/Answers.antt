@@ -25,9 +25,9 @@ returns-in_err-stated-clause-cause c =
     let k = form_cause c.in_err-stated.field-0.0 h.causes h.form in
     let p = err_from_is_err_and c.from_residual.result c.from_residual.ensures.1 in
     rw (p.1, p.2) (λ texts q f. reading-fault c.args.bytes.now texts q c.lines.at n c.lines.stated (c.lines.invariant.read texts q f) text
-        c.line_at-next.result.1
+    c.line_at-next.result.1
     (record { text_is = c.line_at-next.ensures.text; next_is = c.line_at-next.ensures.next }) c.lines.number c.in_err-stated.field-0.0 k.0 some
-        (omega (arith, c.lines.invariant.behind)) e h.cause k.1 ∙ sym k.1)
+    (omega (arith, c.lines.invariant.behind)) e h.cause k.1 ∙ sym k.1)
 
 pub lines-preserved : goal.lines-preserved
 lines-preserved c =
@@ -43,7 +43,7 @@ lines-preserved c =
       read = λ texts p f. subst (λ (k : ℕ). ReadingOf texts p.lines c.args.bytes.now c.line_at-next.result.1 k c.in_ok-stated.stated) next
           (reading-more c.args.bytes.now texts p c.lines.at n c.lines.stated (c.lines.invariant.read texts p f) text c.line_at-next.result.1
           (record { text_is = c.line_at-next.ensures.text; next_is = c.line_at-next.ensures.next }) c.lines.number c.in_ok-stated.stated some e
-              c.in_ok-stated.ensures.kept);
+          c.in_ok-stated.ensures.kept);
     }
 
 pub returns-clause-spelled : goal.returns-clause-spelled

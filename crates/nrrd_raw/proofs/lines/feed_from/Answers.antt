@@ -12,4 +12,4 @@ pub returns-clause-first : goal.returns-clause-first
 returns-clause-first c =
     let all : c.loop-at.at ≡ length c.args.bytes.now = omega arith in
     first_from (nat_eq 10) c.args.bytes.now c.args.from (length c.args.bytes.now) (omega arith) (omega arith) (rw all at c.loop-at.invariant)
-        (λ h. absurd (omega arith))
+    (λ h. absurd (omega arith))

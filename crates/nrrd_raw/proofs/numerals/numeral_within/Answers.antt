@@ -19,5 +19,5 @@ loop-at-preserved c =
       digits = digits-more c.args.text.now c.loop-at.at c.loop-at-test.true c.loop-at.invariant.digits d;
       value =
           value-more c.args.text.now c.loop-at.at c.loop-at.value c.from.result (c.args.high + 1) c.min-value.result c.loop-at-test.true
-              c.loop-at.invariant.value digit c.min-value.ensures;
+          c.loop-at.invariant.value digit c.min-value.ensures;
     }

@@ -17,7 +17,7 @@ loop-at-init c =
       word = c.word_from-at.ensures.word;
       read = subst (λ (rest : List (List ℕ)). ReadsWords (words_of value) rest 0 (1 ∷ 1 ∷ 1 ∷ 1 ∷ []))
           (words_of-skip value 0 at (omega arith) c.word_from-at.ensures.within c.word_from-at.ensures.blank)
-              (ReadsWords-none (words_of value) (1 ∷ 1 ∷ 1 ∷ 1 ∷ []));
+          (ReadsWords-none (words_of value) (1 ∷ 1 ∷ 1 ∷ 1 ∷ []));
     }
 
 pub returns-in_err-size : goal.returns-in_err-size
@@ -27,7 +27,7 @@ returns-in_err-size c =
     let e = c.word_end-end.ensures in
     let word = words_of-word value at c.word_end-end.result e.later e.within (c.loop-at.invariant.word c.loop-at-test.true) e.word e.blank in
     rw c.from_residual.ensures
-        (sizes_from-wrong (words_of value) _ _ _ c.loop-at.count c.loop-at.places c.loop-at.invariant.read word c.in_err-size.ensures.value)
+    (sizes_from-wrong (words_of value) _ _ _ c.loop-at.count c.loop-at.places c.loop-at.invariant.read word c.in_err-size.ensures.value)
 
 pub returns-then-count-eq4 : goal.returns-then-count-eq4
 returns-then-count-eq4 c =
@@ -48,8 +48,8 @@ loop-at-preserved c =
     let more : count < 4 = omega (arith, c.loop-at.invariant.shape.few) in
     let word = words_of-word value at c.word_end-end.result e.later e.within (c.loop-at.invariant.word c.loop-at-test.true) e.word e.blank in
     let read =
-        ReadsWords-more (words_of value) _ _ _ count size c.loop-at.places c.loop-at.invariant.read word
-            (omega (arith, c.loop-at.invariant.shape.four, more)) c.in_ok-size.ensures.value in
+    ReadsWords-more (words_of value) _ _ _ count size c.loop-at.places c.loop-at.invariant.read word
+    (omega (arith, c.loop-at.invariant.shape.four, more)) c.in_ok-size.ensures.value in
     let skip = words_of-skip value c.word_end-end.result c.word_from-at-in-loop-at.result n.later n.within n.blank in
     record {
       shape = rw c.from.ensures (HasShape-set count size c.loop-at.places c.loop-at.invariant.shape more);

@@ -1,7 +1,7 @@
 use Rattle.std.proofs.Common.{◌+◌, ◌^◌, inl, inr, arith, subst, sym, ap, Option, List, ℕ}
 use Rattle.std.proofs.lemmas.Bool.{cases_lt}
 use Rattle.iso_model.specs.Values.{product}
-use Rattle.nrrd_raw.specs.Taken.{TakesAtMost}
+use Rattle.iso_base.specs.Shelves.{TakesAtMost}
 use Rattle.nrrd_raw.proofs.TakenLaws.{TakesAtMost-grid, TakesAtMost-more}
 use Rattle.std.proofs.lemmas.Result.{err_from_is_err_and}
 use Rattle.nrrd_raw.proofs.ReadingLaws.{grid-read, grid-samples_fault, grid-header_fault}
@@ -13,11 +13,11 @@ returns-clause-taken g c =
     elim (cases_lt (2 ^ 27) (product header.sizes)) [
       | inl large ↦
           subst (λ (now : Option (List ℕ)). TakesAtMost (2 ^ 29 + 65537) (g.S.Shelf.rest c.args.shelf.now) now)
-              (sym (ap g.S.Shelf.rest (c.read_samples.ensures.untouched large)))
+          (sym (ap g.S.Shelf.rest (c.read_samples.ensures.untouched large)))
           (TakesAtMost-more 65536 (2 ^ 29 + 65537) _ _ c.read_header.ensures.taken (omega arith))
       | inr few ↦
           TakesAtMost-grid (product header.sizes) header.width _ _ _ c.read_header.ensures.taken c.read_samples.ensures.taken few
-              c.in_ok-header.ensures.regular.wide
+          c.in_ok-header.ensures.regular.wide
     ]
 
 pub returns-in_err-header-clause-cause : goal.returns-in_err-header-clause-cause
@@ -28,9 +28,9 @@ returns-in_err-header-clause-cause g c =
 pub returns-clause-spelled : goal.returns-clause-spelled
 returns-clause-spelled g c =
     grid-read c.read_samples.result (g.S.Shelf.rest c.args.shelf.now) _ c.in_ok-header.header c.in_ok-header.ensures.read
-        c.read_samples.ensures.spelled
+    c.read_samples.ensures.spelled
 
 pub returns-clause-cause : goal.returns-clause-cause
 returns-clause-cause g c =
     grid-samples_fault c.read_samples.result (g.S.Shelf.rest c.args.shelf.now) _ c.in_ok-header.header c.in_ok-header.ensures.read
-        c.read_samples.ensures.cause
+    c.read_samples.ensures.cause

@@ -12,7 +12,7 @@ pub returns-clause-read : goal.returns-clause-read
 returns-clause-read g c =
     header-read c.header_of.result _ _ c.deref.result.now (subst IsFront (sym c.deref.ensures.0) c.in_ok-take_front.ensures.whole)
     (subst (λ (bs : List ℕ). Consumes (g.S.Shelf.rest c.args.shelf.now) (g.S.Shelf.rest c.take_front.new.shelf) bs) (sym c.deref.ensures.0)
-         c.in_ok-take_front.ensures.came)
+    c.in_ok-take_front.ensures.came)
     c.header_of.ensures.spelled
 
 pub returns-clause-cause : goal.returns-clause-cause
@@ -20,5 +20,5 @@ returns-clause-cause g c =
     header-cause c.header_of.result (g.S.Shelf.rest c.args.shelf.now) (g.S.Shelf.rest c.take_front.new.shelf) c.deref.result.now
     (subst IsFront (sym c.deref.ensures.0) c.in_ok-take_front.ensures.whole)
     (subst (λ (bs : List ℕ). Consumes (g.S.Shelf.rest c.args.shelf.now) (g.S.Shelf.rest c.take_front.new.shelf) bs) (sym c.deref.ensures.0)
-         c.in_ok-take_front.ensures.came)
+    c.in_ok-take_front.ensures.came)
     c.header_of.ensures.causes c.header_of.ensures.form c.header_of.ensures.cause

@@ -1,14 +1,12 @@
-use Rattle.std.proofs.Common.{◌≡◌, ◌≤◌, ◌-◌, ◌*◌, vec_len, All}
+use Rattle.std.proofs.Common.{◌≤◌, ◌-◌, ◌*◌, vec_len, All}
+use Rattle.iso_base.specs.Shelves.{IsSameShelf, TakesAtMost}
 use Rattle.nrrd_raw.specs.FaultCauses.{ReadsSamples}
 use Rattle.nrrd_raw.specs.Shapes.{InRange}
-use Rattle.nrrd_raw.specs.Taken.{TakesAtMost}
 use Rattle.nrrd_raw.proofs.reading.take_samples.Given as goal
 
 abbrev pub invariant-pieces : goal.invariant-pieces
 invariant-pieces g l = record {
-  later : g.S.Shelf.faults l.initial.shelf ≤ g.S.Shelf.faults l.shelf;
-  stays : g.S.Shelf.files l.shelf ≡ g.S.Shelf.files l.initial.shelf;
-  sound_stays : g.S.Shelf.sound l.initial.shelf → g.S.Shelf.sound l.shelf;
+  same : IsSameShelf g.S.Shelf.faults g.S.Shelf.files g.S.Shelf.sound l.initial.shelf l.shelf;
   few : vec_len l.samples ≤ l.count;
   range : All InRange l.samples.items;
   taken : TakesAtMost (vec_len l.samples * l.width) (g.S.Shelf.rest l.initial.shelf) (g.S.Shelf.rest l.shelf);

@@ -9,17 +9,17 @@ use Rattle.nrrd_raw.proofs.stated.Stated.with_field.Goals as goal
 pub returns-then-is_zero-clause-kept : goal.returns-then-is_zero-clause-kept
 returns-then-is_zero-clause-kept c = λ texts text e h n.
     adds-skip _ _ _ _ _ texts text _ c.args.value.now c.args.number (lower-lower c.args.name.now) c.in-Skip.ensures
-        (sym c.is_zero.ensures ∙ c.if-is_zero.true) e h
+    (sym c.is_zero.ensures ∙ c.if-is_zero.true) e h
 
 pub returns-else-has-clause-kept : goal.returns-else-has-clause-kept
 returns-else-has-clause-kept c =
     subst (λ (name : List ℕ). IfOk c.with_value.result (λ next. AddsLine c.args.self next c.args.number (named_field name c.args.value.now)))
-        (sym c.in-Read.ensures) c.with_value.ensures.kept
+    (sym c.in-Read.ensures) c.with_value.ensures.kept
 
 pub returns-else-has-clause-cause : goal.returns-else-has-clause-cause
 returns-else-has-clause-cause c =
     subst (λ (name : List ℕ). IfErr c.with_value.result (HasCause c.args.self c.args.number (named_field name c.args.value.now)))
-        (sym c.in-Read.ensures) c.with_value.ensures.cause
+    (sym c.in-Read.ensures) c.with_value.ensures.cause
 
 pub returns-in-Other-clause-kept : goal.returns-in-Other-clause-kept
 returns-in-Other-clause-kept c = λ texts text e h n.
