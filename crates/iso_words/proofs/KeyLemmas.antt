@@ -32,7 +32,7 @@ value_for-other key other word v e apart =
     let p = value_for-some key word v e in
     let apart' : same_list (before_first (nat_eq 61) word) other ≡ false = ap (λ (b : List ℕ). same_list b other) p.1 ∙ apart in
     let t : (has word 61 && same_list (before_first (nat_eq 61) word) other) ≡ false =
-        ap (λ (b : Bool). has word 61 && b) apart' ∙ (elim (has word 61) as (λ (b : Bool). (b && false) ≡ false) [ true ↦ refl | false ↦ refl ]) in
+    ap (λ (b : Bool). has word 61 && b) apart' ∙ (elim (has word 61) as (λ (b : Bool). (b && false) ≡ false) [ true ↦ refl | false ↦ refl ]) in
     ap (λ (b : Bool). cond b (Some (after_first (nat_eq 61) word)) None) t
 
 -- it has a key of a list just where its key is one of them

@@ -58,8 +58,8 @@ never_stands P (Some o) new key xs word text e stood t read more v (x, only, p) 
 never_stands P None (Some n) key xs word text e stood t read more v s = true≢false t
 never_stands P None None key xs word text e stood t read more v (x, only, p) =
     let same : text ≡ x =
-        first_value text x _
-            (sym (goes_on key xs word text more e ∙ ap (λ (vs : List (List ℕ)). (vs ++ text ∷ []) ++ values_of key more) stood) ∙ only) in
+    first_value text x _
+    (sym (goes_on key xs word text more e ∙ ap (λ (vs : List (List ℕ)). (vs ++ text ∷ []) ++ values_of key more) stood) ∙ only) in
     read v (subst (λ (u : List ℕ). P u v) (sym same) p)
 
 -- the value of the first word with the key stands

@@ -48,7 +48,7 @@ pub never_file : (name : CommandName) (key : Key)
 never_file name key is_file further word text old new has e stood read t =
     not_begin-never name key (further ++ word ∷ []) has (λ more s. let p = is_file ((further ++ word ∷ []) ++ more) s in
     never_stands IsFile (option_copied old) (option_copied new) (key_text key) further word text e stood (both_copied old new ∙ t)
-        (file_read text new read) more p.0 p.1)
+    (file_read text new read) more p.0 p.1)
 
 -- ---- isovalues
 

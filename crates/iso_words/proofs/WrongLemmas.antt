@@ -67,17 +67,16 @@ nothing = record { kind = None; dim = None; table = None; grid = None; iso = Non
 begin_nothing : BeginRight is_built []
 begin_nothing =
     let begun =
-        BeginRight-given Check [] nothing
-            (record
-                 {
-                   keyed = All-nil (λ w. has_key_of (keys_of Check) w ≡ true);
-                   kind = refl;
-                   dim = refl;
-                   fits = tt;
-                   table = refl;
-                   grid = refl;
-                   iso = refl
-                 }) in
+    BeginRight-given Check [] nothing
+    (record {
+      keyed = All-nil (λ w. has_key_of (keys_of Check) w ≡ true);
+      kind = refl;
+      dim = refl;
+      fits = tt;
+      table = refl;
+      grid = refl;
+      iso = refl;
+    }) in
     (codes "check" ∷ begun.0, begun.1)
 
 named : (word : List ℕ) (rest : List (List ℕ)) (c : Asked) → IsTrue (is_built c) → Say (word ∷ rest) c → (name : CommandName) × (word ≡ name_text name)
@@ -205,12 +204,11 @@ at_most_one false = omega arith
 
 pub few_given : (given : Given) → given_count given ≤ 5
 few_given given =
-    omega
-        (
-          arith,
-          at_most_one (is_some given.kind),
-          at_most_one (is_some given.dim),
-          at_most_one (is_some given.table),
-          at_most_one (is_some given.grid),
-          at_most_one (is_some given.iso)
-        )
+    omega (
+      arith,
+      at_most_one (is_some given.kind),
+      at_most_one (is_some given.dim),
+      at_most_one (is_some given.table),
+      at_most_one (is_some given.grid),
+      at_most_one (is_some given.iso),
+    )

@@ -1,8 +1,8 @@
 -- The commands that are built, and what a list of words asks for.
-use Rattle.std.specs.Prelude.{ℕ, Bool, true, false, List, map}
+use Rattle.std.specs.Prelude.{ℕ, Bool, true, false, List, map, IsTrue}
 use Rattle.std.specs.String.{string_bytes}
 use Rattle.std.specs.declared.string.String.{String}
-use Rattle.iso_formats.specs.Commands.{Command as Asked, generate_command, check_command, extract_command}
+use Rattle.iso_formats.specs.Commands.{Command as Asked, Say, generate_command, check_command, extract_command}
 use Rattle.iso_words.specs.declared.Command.{Command}
 use Rattle.iso_words.specs.declared.Command.TheVariants.{Generate, Check, Extract}
 
@@ -16,6 +16,10 @@ is_built _ = false
 -- the bytes of each word
 abbrev pub texts : {A : Type 0} → List (String A) → List (List ℕ)
 texts words = map string_bytes words
+
+-- this holds of each command that is built and that the words say
+abbrev pub EachSaid : List (List ℕ) → (Asked → Type 0) → Type 0
+EachSaid words P = (command : Asked) → IsTrue (is_built command) → Say words command → P command
 
 -- the command, by the bytes of its values
 abbrev pub asked : Command → Asked

@@ -1,13 +1,22 @@
 -- What the words of a command gave so far.
 use Rattle.std.specs.Prelude.{◌≡◌, ◌≢◌, ⊤, ℕ, ◌≤◌, ℤ, pos, neg_ℤ, ◌≤ℤ◌, List, [], ◌∷◌, filter_map, Option, Some, None, codes, ◌+◌, if◌then◌else◌, is_some}
+use Rattle.std.specs.Prelude.{Bool, ◌++◌, not, ◌&&◌, ◌||◌, ◌==◌, length, slice_index}
 use Rattle.std.specs.List.{AllPass}
 use Rattle.std.specs.Option.{option_copied}
+use Rattle.std.specs.Str.{all_ascii_digits}
 use Rattle.iso_model.specs.declared.Kind.{Kind}
 use Rattle.iso_model.specs.Cells.{HasDimension}
-use Rattle.iso_formats.specs.Commands.{value_for, has_key_of, kind_name, IsNumber, iso_limit}
-use Rattle.iso_words.specs.Keys.{keys_of}
+use Rattle.iso_formats.specs.Commands.{AreRight, BeginRight, Say, value_for, has_key_of, kind_name, IsNumber, iso_limit}
+use Rattle.iso_words.specs.Built.{asked, is_built}
+use Rattle.iso_words.specs.declared.Command.{Command}
+use Rattle.iso_words.specs.Keys.{keys_of, name_text}
 use Rattle.iso_words.specs.declared.keys.CommandName.{CommandName}
 use Rattle.iso_words.specs.declared.given.Given.{Given}
+
+-- these are digits, at least one, without a leading zero but 0 itself
+abbrev pub are_digits_alone : List ℕ → Bool
+are_digits_alone digits =
+    not (length digits == 0) && all_ascii_digits digits && (length digits == 1 || not (slice_index digits 0 == 48))
 
 -- the text names the kind
 abbrev pub IsKind : List ℕ → Kind → Type 0
@@ -58,8 +67,28 @@ pub record Gave (name : CommandName) (further : List (List ℕ)) (given : Given)
   pub grid : Stood IsFile (option_copied given.grid) (values_of (codes "grid") further)
   pub iso : Stood IsIsovalue given.iso (values_of (codes "iso") further)
 
+-- this holds of each list of words behind the command's name that gives these values
+abbrev pub EachGiving : CommandName → Given → (List (List ℕ) → Type 0) → Type 0
+EachGiving name given P = (further : List (List ℕ)) → Gave name further given → P further
+
+-- this holds of each such list with one more word at its end
+abbrev pub EachLonger : CommandName → Given → List ℕ → (List (List ℕ) → Type 0) → Type 0
+EachLonger name given word P = EachGiving name given (λ further. P (further ++ word ∷ []))
+
+-- the command's name and these words say the command
+abbrev pub SayNamed : CommandName → List (List ℕ) → Command → Type 0
+SayNamed name further command = Say (name_text name ∷ further) (asked command)
+
+-- the command's name and these words are no right list
+abbrev pub AreWrong : CommandName → List (List ℕ) → Type 0
+AreWrong name further = ¬ AreRight is_built (name_text name ∷ further)
+
+-- no right list begins with the command's name and these words
+abbrev pub BeginsNone : CommandName → List (List ℕ) → Type 0
+BeginsNone name further = ¬ BeginRight is_built (name_text name ∷ further)
+
 -- how many values were given
 abbrev pub given_count : Given → ℕ
 given_count given =
     (if is_some given.kind then 1 else 0) + (if is_some given.dim then 1 else 0) + (if is_some given.table then 1 else 0)
-        + (if is_some given.grid then 1 else 0) + (if is_some given.iso then 1 else 0)
+    + (if is_some given.grid then 1 else 0) + (if is_some given.iso then 1 else 0)

@@ -1,6 +1,6 @@
 //! The values that the words of a command gave so far.
 
-ghost use Rattle.std.specs.Prelude.{◌≡◌, ◌+◌, ℕ, ℤ, List, [], ◌∷◌, ◌++◌, is_some, not, ◌&&◌, IfSome, IfNone};
+ghost use Rattle.std.specs.Prelude.{◌≡◌, ◌+◌, ℕ, ℤ, [], is_some, not, ◌&&◌, IfSome, IfNone};
 ghost use Rattle.std.specs.Bool.{OnTrue, OnFalse};
 
 use crate::Command;
@@ -19,10 +19,7 @@ pub(crate) struct Given<'a> {
 }
 
 impl<'a> Given<'a> {
-    ghost use Rattle.iso_formats.specs.Commands.{BeginRight, AreRight, Say};
-    ghost use Rattle.iso_words.specs.Built.{is_built, asked};
-    ghost use Rattle.iso_words.specs.Keys.{name_text};
-    ghost use Rattle.iso_words.specs.Given.{Gave, given_count};
+    ghost use Rattle.iso_words.specs.Given.{AreWrong, BeginsNone, EachGiving, EachLonger, Gave, SayNamed, given_count};
 
     // Nothing yet.
     pub(crate) fn nothing() -> Given<'a>
@@ -40,8 +37,8 @@ impl<'a> Given<'a> {
 
     // Takes the value of one more word of a command, or changes nothing where no right list goes on with the word.
     pub(crate) fn take(&mut self, name: CommandName, word: &'a str) -> bool
-        ensures taken { (further : List (List ℕ)) → Gave name further self.old → OnTrue result (Gave name (further ++ word.entry.now ∷ []) self.new) }
-        ensures refused { (further : List (List ℕ)) → Gave name further self.old → OnFalse result (¬ BeginRight is_built (name_text name ∷ (further ++ word.entry.now ∷ []))) }
+        ensures taken { EachLonger name self.old word.entry.now (λ longer. OnTrue result (Gave name longer self.new)) }
+        ensures refused { EachLonger name self.old word.entry.now (λ longer. OnFalse result (BeginsNone name longer)) }
         ensures count { OnTrue result (given_count self.new ≡ given_count self.old + 1) }
         ensures same { OnFalse result (self.new ≡ self.old) }
     {
@@ -62,8 +59,8 @@ impl<'a> Given<'a> {
 
     // The command, if no key of it is missing.
     pub(crate) fn command(self, name: CommandName) -> Option<Command<'a>>
-        ensures said { (further : List (List ℕ)) → Gave name further self.entry → IfSome result (λ command. Say (name_text name ∷ further) (asked command)) }
-        ensures early { (further : List (List ℕ)) → Gave name further self.entry → IfNone result (¬ AreRight is_built (name_text name ∷ further)) }
+        ensures said { EachGiving name self.entry (λ further. IfSome result (SayNamed name further)) }
+        ensures early { EachGiving name self.entry (λ further. IfNone result (AreWrong name further)) }
     {
         match name {
             CommandName::Generate => match (self.kind, self.dim) {

@@ -9,12 +9,12 @@ pub(crate) enum CommandName {
 }
 
 impl CommandName {
-    ghost use Rattle.std.specs.Prelude.{◌≡◌, ◌≢◌, MatchOption};
-    ghost use Rattle.iso_words.specs.Keys.{name_text, has_key};
+    ghost use Rattle.std.specs.Prelude.{◌≡◌};
+    ghost use Rattle.iso_words.specs.Keys.{Finds, name_text, has_key};
 
     // The command that a word names.
     pub(crate) fn named(word: &str) -> Option<CommandName>
-        ensures { MatchOption result ((name : CommandName) → word.now ≢ name_text name) (λ name. word.now ≡ name_text name) }
+        ensures { Finds (λ name. word.now ≡ name_text name) result }
     {
         if word == "generate" {
             Some(CommandName::Generate)
@@ -50,13 +50,12 @@ pub(crate) enum Key {
 }
 
 impl Key {
-    ghost use Rattle.std.specs.Prelude.{◌≡◌, ◌≢◌, Some, None, MatchOption};
-    ghost use Rattle.iso_formats.specs.Commands.{value_for};
-    ghost use Rattle.iso_words.specs.Keys.{key_text};
+    ghost use Rattle.std.specs.Prelude.{◌≡◌, MatchOption};
+    ghost use Rattle.iso_words.specs.Keys.{Finds, HasNoKey, HasValue, key_text};
 
     // The key that a text names.
     fn named(text: &str) -> Option<Key>
-        ensures { MatchOption result ((key : Key) → text.now ≢ key_text key) (λ key. text.now ≡ key_text key) }
+        ensures { Finds (λ key. text.now ≡ key_text key) result }
     {
         if text == "kind" {
             Some(Key::Kind)
@@ -75,7 +74,7 @@ impl Key {
 
     // The key of a word, and its value.
     pub(crate) fn with_value(word: &str) -> Option<(Key, &str)>
-        ensures { MatchOption result ((key : Key) → value_for (key_text key) word.now ≡ None) (λ pair. value_for (key_text pair.0) word.now ≡ Some pair.1.now) }
+        ensures { MatchOption result (HasNoKey word.now) (λ pair. HasValue word.now pair.0 pair.1.now) }
     {
         let Some((text, value)) = word.split_once('=') else {
             return None;

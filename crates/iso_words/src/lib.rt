@@ -9,14 +9,14 @@
 //! | `check table=F` | whether the table of the file is accepted |
 //! | `extract table=F grid=F iso=N` | the mesh of the grid at the isovalue |
 //!
-//! K is `cube`, `simplex` or `pyramid`, and F is a file name of at least one character. N is an optional `-` and digits,
-//! without a leading zero but `0` itself, and not `-0`. A dimension is 2, 3 or 4, and 3 with `pyramid`; an isovalue lies
-//! from -1099511627776 to 1099511627776. Letter case matters everywhere.
+//! K is `cube`, `simplex` or `pyramid`, and F is a file name of at least one character. N is an optional `-` and
+//! digits, without a leading zero but `0` itself, and not `-0`. A dimension is 2, 3 or 4, and 3 with `pyramid`; an
+//! isovalue lies from -1099511627776 to 1099511627776. Letter case matters everywhere.
 #![tactic(auto)]
 
-ghost use Rattle.std.specs.Prelude.{◌≡◌, ℕ, IsTrue, IfOk, IfErr, IsOkAnd, IsErrAnd};
-ghost use Rattle.iso_formats.specs.Commands.{Command as Asked, Say, IsWrongWord};
-ghost use Rattle.iso_words.specs.Built.{is_built, texts, asked};
+ghost use Rattle.std.specs.Prelude.{◌≡◌, ℕ, IfOk, IfErr, IsOkAnd, IsErrAnd};
+ghost use Rattle.iso_formats.specs.Commands.{Say, IsWrongWord};
+ghost use Rattle.iso_words.specs.Built.{EachSaid, is_built, texts, asked};
 
 mod given;
 mod keys;
@@ -54,7 +54,7 @@ pub struct WrongWord(pub u32);
 /// The command that the words say, or the first wrong word. `words` are the words after the program's name.
 pub fn parse(words: &[String]) -> Result<Command<'_>, WrongWord>
     ensures said { IfOk result (λ command. Say (texts words.now) (asked command)) }
-    ensures exact { (command : Asked) → IsTrue (is_built command) → Say (texts words.now) command → IsOkAnd result (λ given. asked given ≡ command) }
+    ensures exact { EachSaid (texts words.now) (λ command. IsOkAnd result (λ given. asked given ≡ command)) }
     ensures wrong { (n : ℕ) → IsWrongWord is_built (texts words.now) n → IsErrAnd result (λ wrong. wrong.0 ≡ n) }
     ensures place { IfErr result (λ wrong. IsWrongWord is_built (texts words.now) wrong.0) }
 {

@@ -1,13 +1,14 @@
 //! The values of keys: kinds, dimensions, file names and isovalues.
 
-ghost use Rattle.std.specs.Prelude.{◌≡◌, ℕ, ℤ, [], MatchOption, not, ◌&&◌, ◌||◌, ◌==◌, length, drop, slice_index, FitsSigned, if◌then◌else◌};
+ghost use Rattle.std.specs.Prelude.{◌≡◌, ℤ, [], MatchOption, drop, FitsSigned, if◌then◌else◌};
 ghost use Rattle.std.specs.Int.{w64};
 ghost use Rattle.std.specs.Bool.{OnTrue, OnFalse};
 ghost use Rattle.std.specs.Str.{all_ascii_digits};
 ghost use Rattle.std.specs.Str.Parse.{starts_with_minus};
 ghost use Rattle.iso_model.specs.Cells.{HasDimension};
 ghost use Rattle.iso_formats.specs.Commands.{is_number, IsNumber};
-ghost use Rattle.iso_words.specs.Given.{IsKind, IsDimension, IsFile, IsIsovalue, IsKindBeside, IsDimensionBeside};
+ghost use Rattle.iso_words.specs.Given.{are_digits_alone, IsKind, IsDimension, IsFile, IsIsovalue, IsKindBeside, IsDimensionBeside};
+ghost use Rattle.iso_words.specs.Keys.{Finds};
 
 use iso_model::Kind;
 
@@ -16,7 +17,7 @@ const ISO_LIMIT: i64 = 1 << 40;
 
 // A kind, which has the dimension that was given, if one was.
 pub(crate) fn kind_beside(dim: Option<u8>, value: &str) -> Option<Kind>
-    ensures { MatchOption result ((kind : Kind) → ¬ IsKindBeside dim value.now kind) (λ kind. IsKindBeside dim value.now kind) }
+    ensures { Finds (IsKindBeside dim value.now) result }
 {
     let Some(kind) = kind_named(value) else {
         return None;
@@ -29,7 +30,7 @@ pub(crate) fn kind_beside(dim: Option<u8>, value: &str) -> Option<Kind>
 
 // A dimension, which the kind has that was given, if one was.
 pub(crate) fn dimension_beside(kind: Option<Kind>, value: &str) -> Option<u8>
-    ensures { MatchOption result ((d : ℕ) → ¬ IsDimensionBeside kind value.now d) (λ d. IsDimensionBeside kind value.now d) }
+    ensures { Finds (IsDimensionBeside kind value.now) result }
 {
     let Some(dim) = dimension(value) else {
         return None;
@@ -42,7 +43,7 @@ pub(crate) fn dimension_beside(kind: Option<Kind>, value: &str) -> Option<u8>
 
 // The kind that a text names.
 fn kind_named(value: &str) -> Option<Kind>
-    ensures { MatchOption result ((kind : Kind) → ¬ IsKind value.now kind) (λ kind. IsKind value.now kind) }
+    ensures { Finds (IsKind value.now) result }
 {
     if value == "cube" {
         Some(Kind::Cube)
@@ -57,7 +58,7 @@ fn kind_named(value: &str) -> Option<Kind>
 
 // A dimension within its limits.
 fn dimension(value: &str) -> Option<u8>
-    ensures { MatchOption result ((d : ℕ) → ¬ IsDimension value.now d) (λ d. IsDimension value.now d) }
+    ensures { Finds (IsDimension value.now) result }
 {
     let Some(n) = number(value) else {
         return None;
@@ -89,7 +90,7 @@ pub(crate) fn file_name(value: &str) -> Option<&str>
 
 // An isovalue within its limits.
 pub(crate) fn isovalue(value: &str) -> Option<i64>
-    ensures { MatchOption result ((n : ℤ) → ¬ IsIsovalue value.now n) (λ n. IsIsovalue value.now n) }
+    ensures { Finds (IsIsovalue value.now) result }
 {
     let Some(n) = number(value) else {
         return None;
@@ -133,7 +134,7 @@ fn without_minus(text: &[u8]) -> &[u8]
 
 // Whether these are digits, at least one, without a leading zero but `0` itself.
 fn are_plain(digits: &[u8]) -> bool
-    ensures { result ≡ (not (length digits.now == 0) && all_ascii_digits digits.now && (length digits.now == 1 || not (slice_index digits.now 0 == 48))) }
+    ensures { result ≡ are_digits_alone digits.now }
 {
     !digits.is_empty() && are_digits(digits) && (digits.len() == 1 || digits[0] != b'0')
 }

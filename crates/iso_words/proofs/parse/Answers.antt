@@ -31,13 +31,13 @@ returns-then-not-take-clause-place c =
     let i = c.loop-i.i in
     let in' : i < length further = omega arith in
     let more =
-        ap (λ (t : List ℕ). take i (texts further) ++ t ∷ []) c.as_str-in-loop-i.ensures.value
-            ∙ texts-more further i c.index-further-i.result in' c.index-further-i.is in
+    ap (λ (t : List ℕ). take i (texts further) ++ t ∷ []) c.as_str-in-loop-i.ensures.value
+    ∙ texts-more further i c.index-further-i.result in' c.index-further-i.is in
     subst (λ (ws : List (List ℕ)). IsWrongWord is_built ws (i + 2))
     (sym (texts-first c.args.words.now further c.in-Some.first.now name c.in-Some.ensures.cases.0 (sym c.as_str.ensures.value ∙ c.in-Some-named.ensures)))
     (wrong_further name (texts further) i c.loop-i.given (omega (arith, length-texts further)) c.loop-i.invariant.gave
     (λ b. c.if-not-take.ensures.refused (take i (texts further)) c.loop-i.invariant.gave
-        (subst (λ (ws : List (List ℕ)). BeginRight is_built (name_text name ∷ ws)) (sym more) b)))
+    (subst (λ (ws : List (List ℕ)). BeginRight is_built (name_text name ∷ ws)) (sym more) b)))
 
 pub returns-then-not-take-clause-exact : goal.returns-then-not-take-clause-exact
 returns-then-not-take-clause-exact c = never_said (texts c.args.words.now) (c.loop-i.i + 2) (returns-then-not-take-clause-place c)
@@ -49,8 +49,8 @@ loop-i-preserved c =
     let i = c.loop-i.i in
     let in' : i < length further = omega arith in
     let more =
-        ap (λ (t : List ℕ). take i (texts further) ++ t ∷ []) c.as_str-in-loop-i.ensures.value
-            ∙ texts-more further i c.index-further-i.result in' c.index-further-i.is in
+    ap (λ (t : List ℕ). take i (texts further) ++ t ∷ []) c.as_str-in-loop-i.ensures.value
+    ∙ texts-more further i c.index-further-i.result in' c.index-further-i.is in
     record {
       gave = subst (λ (ws : List (List ℕ)). Gave name ws c.take.new.self) more (c.if-not-take.ensures.taken (take i (texts further)) c.loop-i.invariant.gave);
       count = c.if-not-take.ensures.count ∙ ap (λ (n : ℕ). n + 1) c.loop-i.invariant.count;
@@ -74,7 +74,7 @@ returns-in-Some-command-clause-said c =
 pub returns-in-Some-command-clause-exact : goal.returns-in-Some-command-clause-exact
 returns-in-Some-command-clause-exact c = λ command b s.
     Say-one (texts c.args.words.now) (asked c.in-Some-command.command) command (asked_built c.in-Some-command.command) b
-        (returns-in-Some-command-clause-said c) s
+    (returns-in-Some-command-clause-said c) s
 
 pub returns-in-None-clause-place : goal.returns-in-None-clause-place
 returns-in-None-clause-place c =
@@ -103,5 +103,5 @@ returns-in-None-clause-wrong c = λ n w. IsWrongWord-one (texts c.args.words.now
 pub returns-in-Some-command-clause-wrong : goal.returns-in-Some-command-clause-wrong
 returns-in-Some-command-clause-wrong c =
     λ n w.
-        never_said (texts c.args.words.now) n w (asked c.in-Some-command.command) (asked_built c.in-Some-command.command)
-            (returns-in-Some-command-clause-said c)
+    never_said (texts c.args.words.now) n w (asked c.in-Some-command.command) (asked_built c.in-Some-command.command)
+    (returns-in-Some-command-clause-said c)

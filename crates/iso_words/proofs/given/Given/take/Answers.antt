@@ -21,18 +21,18 @@ returns-in_default-clause-refused c =
 pub returns-then-not-has-clause-refused : goal.returns-then-not-has-clause-refused
 returns-then-not-has-clause-refused c = λ further g.
     not_begin-unkeyed c.args.name further c.args.word.now
-        (has_key_of-key c.args.name c.in-Some.key c.args.word.now c.in-Some.value.now c.in-Some.ensures ∙ sym c.if-not-has.ensures)
+    (has_key_of-key c.args.name c.in-Some.key c.args.word.now c.in-Some.value.now c.in-Some.ensures ∙ sym c.if-not-has.ensures)
 
 pub returns-in-Kind-clause-taken : goal.returns-in-Kind-clause-taken
 returns-in-Kind-clause-taken c = λ further g. OnTrue_from c.put.result _ (λ t.
     let e = subst (λ (k : Key). value_for (key_text k) c.args.word.now ≡ Some c.in-Some.value.now) c.in-Kind.is c.in-Some.ensures in
     let first =
-        first_kind further c.args.word.now c.in-Some.value.now c.args.self.now.kind c.kind_beside.result c.args.self.now.dim e g.kind g.fits
-            c.kind_beside.ensures (sym c.put.ensures.first ∙ t) in
+    first_kind further c.args.word.now c.in-Some.value.now c.args.self.now.kind c.kind_beside.result c.args.self.now.dim e g.kind g.fits
+    c.kind_beside.ensures (sym c.put.ensures.first ∙ t) in
     record {
       keyed =
           All-push (λ w. has_key_of (keys_of c.args.name) w ≡ true) further c.args.word.now g.keyed
-              (has_key_of-key c.args.name c.in-Some.key c.args.word.now c.in-Some.value.now c.in-Some.ensures ∙ sym c.if-not-has.ensures);
+          (has_key_of-key c.args.name c.in-Some.key c.args.word.now c.in-Some.value.now c.in-Some.ensures ∙ sym c.if-not-has.ensures);
       kind = rw (OnTrue_at t c.put.ensures.value) first.0;
       dim = Stood-other IsDimension c.args.self.now.dim (codes "dim") further c.args.word.now (value_for-other (codes "kind") (codes "dim") c.args.word.now c.in-Some.value.now e refl) g.dim;
       fits = rw (OnTrue_at t c.put.ensures.value) first.1;
@@ -46,18 +46,18 @@ returns-in-Kind-clause-refused c = λ further g. OnFalse_from c.put.result _ (λ
     let e = subst (λ (k : Key). value_for (key_text k) c.args.word.now ≡ Some c.in-Some.value.now) c.in-Kind.is c.in-Some.ensures in
     let has = subst (λ (k : Key). true ≡ has_key c.args.name k) c.in-Kind.is c.if-not-has.ensures in
     never_kind c.args.name further c.args.word.now c.in-Some.value.now c.args.self.now.kind c.kind_beside.result c.args.self.now.dim (sym has) e
-        g.kind g.dim g.fits c.kind_beside.ensures (sym c.put.ensures.first ∙ t))
+    g.kind g.dim g.fits c.kind_beside.ensures (sym c.put.ensures.first ∙ t))
 
 pub returns-in-Dim-clause-taken : goal.returns-in-Dim-clause-taken
 returns-in-Dim-clause-taken c = λ further g. OnTrue_from c.put-in-Dim.result _ (λ t.
     let e = subst (λ (k : Key). value_for (key_text k) c.args.word.now ≡ Some c.in-Some.value.now) c.in-Dim.is c.in-Some.ensures in
     let first =
-        first_dimension further c.args.word.now c.in-Some.value.now c.args.self.now.dim c.dimension_beside.result c.args.self.now.kind e g.dim g.fits
-            c.dimension_beside.ensures (sym c.put-in-Dim.ensures.first ∙ t) in
+    first_dimension further c.args.word.now c.in-Some.value.now c.args.self.now.dim c.dimension_beside.result c.args.self.now.kind e g.dim g.fits
+    c.dimension_beside.ensures (sym c.put-in-Dim.ensures.first ∙ t) in
     record {
       keyed =
           All-push (λ w. has_key_of (keys_of c.args.name) w ≡ true) further c.args.word.now g.keyed
-              (has_key_of-key c.args.name c.in-Some.key c.args.word.now c.in-Some.value.now c.in-Some.ensures ∙ sym c.if-not-has.ensures);
+          (has_key_of-key c.args.name c.in-Some.key c.args.word.now c.in-Some.value.now c.in-Some.ensures ∙ sym c.if-not-has.ensures);
       kind = Stood-other IsKind c.args.self.now.kind (codes "kind") further c.args.word.now (value_for-other (codes "dim") (codes "kind") c.args.word.now c.in-Some.value.now e refl) g.kind;
       dim = rw (OnTrue_at t c.put-in-Dim.ensures.value) first.0;
       fits = rw (OnTrue_at t c.put-in-Dim.ensures.value) first.1;
@@ -71,7 +71,7 @@ returns-in-Dim-clause-refused c = λ further g. OnFalse_from c.put-in-Dim.result
     let e = subst (λ (k : Key). value_for (key_text k) c.args.word.now ≡ Some c.in-Some.value.now) c.in-Dim.is c.in-Some.ensures in
     let has = subst (λ (k : Key). true ≡ has_key c.args.name k) c.in-Dim.is c.if-not-has.ensures in
     never_dimension c.args.name further c.args.word.now c.in-Some.value.now c.args.self.now.dim c.dimension_beside.result c.args.self.now.kind
-        (sym has) e g.dim g.kind g.fits c.dimension_beside.ensures (sym c.put-in-Dim.ensures.first ∙ t))
+    (sym has) e g.dim g.kind g.fits c.dimension_beside.ensures (sym c.put-in-Dim.ensures.first ∙ t))
 
 pub returns-in-Table-clause-taken : goal.returns-in-Table-clause-taken
 returns-in-Table-clause-taken c = λ further g. OnTrue_from c.put-in-Table.result _ (λ t.
@@ -79,7 +79,7 @@ returns-in-Table-clause-taken c = λ further g. OnTrue_from c.put-in-Table.resul
     record {
       keyed =
           All-push (λ w. has_key_of (keys_of c.args.name) w ≡ true) further c.args.word.now g.keyed
-              (has_key_of-key c.args.name c.in-Some.key c.args.word.now c.in-Some.value.now c.in-Some.ensures ∙ sym c.if-not-has.ensures);
+          (has_key_of-key c.args.name c.in-Some.key c.args.word.now c.in-Some.value.now c.in-Some.ensures ∙ sym c.if-not-has.ensures);
       kind = Stood-other IsKind c.args.self.now.kind (codes "kind") further c.args.word.now (value_for-other (codes "table") (codes "kind") c.args.word.now c.in-Some.value.now e refl) g.kind;
       dim = Stood-other IsDimension c.args.self.now.dim (codes "dim") further c.args.word.now (value_for-other (codes "table") (codes "dim") c.args.word.now c.in-Some.value.now e refl) g.dim;
       fits = g.fits;
@@ -93,7 +93,7 @@ returns-in-Table-clause-refused c = λ further g. OnFalse_from c.put-in-Table.re
     let e = subst (λ (k : Key). value_for (key_text k) c.args.word.now ≡ Some c.in-Some.value.now) c.in-Table.is c.in-Some.ensures in
     let has = subst (λ (k : Key). true ≡ has_key c.args.name k) c.in-Table.is c.if-not-has.ensures in
     never_file c.args.name Table (λ xs s. s) further c.args.word.now c.in-Some.value.now c.args.self.now.table c.file_name.result (sym has) e g.table
-        c.file_name.ensures (sym c.put-in-Table.ensures.first ∙ t))
+    c.file_name.ensures (sym c.put-in-Table.ensures.first ∙ t))
 
 pub returns-in-Grid-clause-taken : goal.returns-in-Grid-clause-taken
 returns-in-Grid-clause-taken c = λ further g. OnTrue_from c.put-in-Grid.result _ (λ t.
@@ -101,7 +101,7 @@ returns-in-Grid-clause-taken c = λ further g. OnTrue_from c.put-in-Grid.result 
     record {
       keyed =
           All-push (λ w. has_key_of (keys_of c.args.name) w ≡ true) further c.args.word.now g.keyed
-              (has_key_of-key c.args.name c.in-Some.key c.args.word.now c.in-Some.value.now c.in-Some.ensures ∙ sym c.if-not-has.ensures);
+          (has_key_of-key c.args.name c.in-Some.key c.args.word.now c.in-Some.value.now c.in-Some.ensures ∙ sym c.if-not-has.ensures);
       kind = Stood-other IsKind c.args.self.now.kind (codes "kind") further c.args.word.now (value_for-other (codes "grid") (codes "kind") c.args.word.now c.in-Some.value.now e refl) g.kind;
       dim = Stood-other IsDimension c.args.self.now.dim (codes "dim") further c.args.word.now (value_for-other (codes "grid") (codes "dim") c.args.word.now c.in-Some.value.now e refl) g.dim;
       fits = g.fits;
@@ -115,7 +115,7 @@ returns-in-Grid-clause-refused c = λ further g. OnFalse_from c.put-in-Grid.resu
     let e = subst (λ (k : Key). value_for (key_text k) c.args.word.now ≡ Some c.in-Some.value.now) c.in-Grid.is c.in-Some.ensures in
     let has = subst (λ (k : Key). true ≡ has_key c.args.name k) c.in-Grid.is c.if-not-has.ensures in
     never_file c.args.name Grid (λ xs s. s) further c.args.word.now c.in-Some.value.now c.args.self.now.grid c.file_name-in-Grid.result (sym has) e
-        g.grid c.file_name-in-Grid.ensures (sym c.put-in-Grid.ensures.first ∙ t))
+    g.grid c.file_name-in-Grid.ensures (sym c.put-in-Grid.ensures.first ∙ t))
 
 pub returns-in-Iso-clause-taken : goal.returns-in-Iso-clause-taken
 returns-in-Iso-clause-taken c = λ further g. OnTrue_from c.put-in-Iso.result _ (λ t.
@@ -123,7 +123,7 @@ returns-in-Iso-clause-taken c = λ further g. OnTrue_from c.put-in-Iso.result _ 
     record {
       keyed =
           All-push (λ w. has_key_of (keys_of c.args.name) w ≡ true) further c.args.word.now g.keyed
-              (has_key_of-key c.args.name c.in-Some.key c.args.word.now c.in-Some.value.now c.in-Some.ensures ∙ sym c.if-not-has.ensures);
+          (has_key_of-key c.args.name c.in-Some.key c.args.word.now c.in-Some.value.now c.in-Some.ensures ∙ sym c.if-not-has.ensures);
       kind = Stood-other IsKind c.args.self.now.kind (codes "kind") further c.args.word.now (value_for-other (codes "iso") (codes "kind") c.args.word.now c.in-Some.value.now e refl) g.kind;
       dim = Stood-other IsDimension c.args.self.now.dim (codes "dim") further c.args.word.now (value_for-other (codes "iso") (codes "dim") c.args.word.now c.in-Some.value.now e refl) g.dim;
       fits = g.fits;
@@ -137,4 +137,4 @@ returns-in-Iso-clause-refused c = λ further g. OnFalse_from c.put-in-Iso.result
     let e = subst (λ (k : Key). value_for (key_text k) c.args.word.now ≡ Some c.in-Some.value.now) c.in-Iso.is c.in-Some.ensures in
     let has = subst (λ (k : Key). true ≡ has_key c.args.name k) c.in-Iso.is c.if-not-has.ensures in
     never_isovalue c.args.name further c.args.word.now c.in-Some.value.now c.args.self.now.iso c.isovalue.result (sym has) e g.iso c.isovalue.ensures
-        (sym c.put-in-Iso.ensures.first ∙ t))
+    (sym c.put-in-Iso.ensures.first ∙ t))
