@@ -39,7 +39,7 @@ said_answer files words _ command known built said true_of = (command, built, sa
 -- what a command leaves of the shelf, the words leave
 pub said_shelf :
     {S : Type 0} (faults : S → ℕ) (files : S → Option Files) (sound : S → Type 0) (words : List (List ℕ)) (status : Status) (old new : S)
-        (command : Command)
+    (command : Command)
     → IsTrue (is_built command) → Say words command → LeavesShelf faults files sound (LacksFile (files old) command) status old new
     → LeavesShelf faults files sound (SayBuilt words (LacksFile (files old))) status old new
 said_shelf faults files sound words status old new command built said leaves = record {
@@ -54,7 +54,7 @@ said_shelf faults files sound words status old new command built said leaves = r
 -- a line that was put
 pub puts_line : {E : Type 0} (faults : E → ℕ) (bytes : E → Option (List ℕ)) (status : Status) (old new : E) (text : List ℕ) (result : Result (Unit {0}) Failed)
     → CountsFaults (faults old) (faults new) result → OnOk result (Appends (bytes old) (bytes new) text)
-        → OnErr result (AppendsFront (bytes old) (bytes new) text)
+    → OnErr result (AppendsFront (bytes old) (bytes new) text)
     → text ≡ status_line status → (status ≡ Statuses.Done → new ≡ old) → PutsLine faults bytes status old new
 puts_line faults bytes status old new text (Ok u) counts all front is silent =
     let put : Appends (bytes old) (bytes new) (status_line status) = subst (λ (xs : List ℕ). Appends (bytes old) (bytes new) xs) is all in
@@ -62,12 +62,11 @@ puts_line faults bytes status old new text (Ok u) counts all front is silent =
     record {
       later = counts.later;
       whole = λ never. put;
-      front =
-          (
-            length (status_line status),
-            most,
-            subst (λ (xs : List ℕ). Appends (bytes old) (bytes new) xs) (sym (take_all (length (status_line status)) (status_line status) most)) put
-          );
+      front = (
+        length (status_line status),
+        most,
+        subst (λ (xs : List ℕ). Appends (bytes old) (bytes new) xs) (sym (take_all (length (status_line status)) (status_line status) most)) put,
+      );
       silent = silent;
     }
 puts_line faults bytes status old new text (Err e) counts all front is silent = record {
@@ -101,7 +100,7 @@ all_there files (demo_command kind d size seed) there lacks = lacks
 -- a shelf that serves well is not blamed
 not_blamed : {S : Type 0} (faults : S → ℕ) (files : S → Option Files) (sound : S → Type 0) (words : List (List ℕ)) (count : ℕ) (old new : S)
     → LeavesShelf faults files sound (SayBuilt words (LacksFile (files old))) (Statuses.ShelfFault count) old new
-        → ServesWell faults files sound words old new → ⊥
+    → ServesWell faults files sound words old new → ⊥
 not_blamed faults files sound words count old new leaves (inl never) = never leaves.blamed.0
 not_blamed faults files sound words count old new leaves (inr serves) =
     let lacks = leaves.missing serves.0 tt in
@@ -110,9 +109,9 @@ not_blamed faults files sound words count old new leaves (inr serves) =
 -- where the outside serves well and no refusal holds, the output is whole, or memory was refused
 pub complete :
     {S : Type 0} (faults : S → ℕ) (files : S → Option Files) (sound : S → Type 0) (words : List (List ℕ)) (status : Status) (old new : S)
-        (before now : ℕ)
+    (before now : ℕ)
     → IsTrueAnswer (files old) words status → LeavesShelf faults files sound (SayBuilt words (LacksFile (files old))) status old new
-        → BlamesOutput status before now
+    → BlamesOutput status before now
     → ¬ Rose before now → ServesWell faults files sound words old new → IsAnswerable (files old) words → IsDoneOrMemory status
 complete faults files sound words Statuses.Done old new before now true_of leaves blames never serves may = tt
 complete faults files sound words Statuses.Memory old new before now true_of leaves blames never serves may = tt

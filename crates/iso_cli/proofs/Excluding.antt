@@ -1,8 +1,8 @@
 -- Files that hold what a command needs are not refused, and words say one command.
-use Rattle.std.proofs.Common.{◌≡◌, ℕ, ◌+◌, ◌<◌, ◌≤◌, ◌^◌, length, List, [], ◌∷◌, ◌++◌, take, drop, Option, Some, refl, sym, ap, subst, ◌∙◌, inl, inr}
+use Rattle.std.proofs.Common.{◌≡◌, ℕ, ◌+◌, ◌<◌, ◌≤◌, ◌^◌, length, List, [], ◌∷◌, ◌++◌, take, drop, Some, refl, sym, ap, subst, ◌∙◌, inl, inr}
 use Rattle.std.proofs.Common.{arith, append_assoc, append-nil, take-append-drop, length-append, length-drop}
-use Rattle.std.proofs.lemmas.List.{nil_from_length, take_all}
-use Rattle.std.specs.Prelude.{All, flat_map, unwrap_or}
+use Rattle.std.proofs.lemmas.List.{nil_from_length}
+use Rattle.std.specs.Prelude.{All, flat_map}
 use Rattle.iso_base.specs.Files.{Files}
 use Rattle.iso_model.specs.Acceptance.{IsAccepted}
 use Rattle.iso_model.specs.declared.Kind.{Kind}
@@ -18,8 +18,8 @@ use Rattle.iso_formats.proofs.HeaderLaws.{one_spelling}
 use Rattle.iso_formats.proofs.LineLaws.{one_header}
 use Rattle.iso_formats.proofs.TableLaws.{entries_go_on, heads_same, table_reads_on}
 use Rattle.iso_cli.specs.declared.status.Status.{Status}
-use Rattle.iso_cli.specs.Refusals.{FileHas, HoldBoth, HoldTable, HoldsAccepted, IsRefusedGrid, IsRefusedMesh, IsRefusedTable, by_grid, by_table}
-use Rattle.iso_cli.specs.Refusals.{no_header, no_samples, no_table, not_accepted, too_long, unfit}
+use Rattle.iso_cli.specs.Refusals.{FileHas, HoldBoth, HoldsAccepted, IsFileOf, IsRefusedByRule, IsRefusedForm, IsRefusedGrid, IsRefusedMesh, IsRefusedTable}
+use Rattle.iso_cli.specs.Refusals.{by_form, by_grid, by_rule, by_table, no_header, no_samples, no_table, not_accepted, too_long, unfit}
 use Rattle.std.proofs.lemmas.Option.{same_Some}
 use Rattle.std.proofs.lemmas.List.Elements.{All-head, All-tail}
 use Rattle.table_file.proofs.WritingLaws.{spelled_once}
@@ -49,10 +49,10 @@ one_table t u rest a b e =
     let r = table_reads_on t.kind t.dimension t.entries u rest [] b a.sound (omega (arith, a.whole)) e in
     let labels : length u.entries ≡ label_count t.kind t.dimension =
     b.whole
-        ∙ subst (λ (k : Kind). label_count k u.dimension ≡ label_count t.kind t.dimension) r.same_kind_of
-              (subst (λ (n : ℕ). label_count t.kind n ≡ label_count t.kind t.dimension) r.same_dimension refl) in
+    ∙ subst (λ (k : Kind). label_count k u.dimension ≡ label_count t.kind t.dimension) r.same_kind_of
+    (subst (λ (n : ℕ). label_count t.kind n ≡ label_count t.kind t.dimension) r.same_dimension refl) in
     let long : length r.on.further ≡ 0 =
-        omega (arith, a.whole, labels, ap (λ (l : List (List (List ℕ))). length l) r.on.is, length-append t.entries r.on.further) in
+    omega (arith, a.whole, labels, ap (λ (l : List (List (List ℕ))). length l) r.on.is, length-append t.entries r.on.further) in
     let none : r.on.further ≡ [] = nil_from_length r.on.further long in
     let entries : u.entries ≡ t.entries = r.on.is ∙ ap (λ (l : List (List (List ℕ))). t.entries ++ l) none ∙ append-nil t.entries in
     (same_tables t u r.same_kind_of r.same_dimension (sym entries), r.on.rest ∙ ap (λ (l : List (List (List ℕ))). flat_map entry_bytes l ++ []) none)
@@ -74,17 +74,17 @@ no_count_passes bytes whole c =
     let heads = heads_same c.kind c.dimension u.kind u.dimension c.entries u.entries c.rest [] (sym c.split ∙ whole.1.1 ∙ sym (append-nil (table_bytes u))) in
     let sound : All (IsEntry c.kind c.dimension) u.entries =
     subst (λ (k : Kind). All (IsEntry k c.dimension) u.entries) (sym heads.kinds)
-        (subst (λ (n : ℕ). All (IsEntry u.kind n) u.entries) (sym heads.dimensions) whole.1.0.sound) in
+    (subst (λ (n : ℕ). All (IsEntry u.kind n) u.entries) (sym heads.dimensions) whole.1.0.sound) in
     let labels : length u.entries ≡ label_count c.kind c.dimension =
     whole.1.0.whole
-        ∙ subst (λ (k : Kind). label_count k u.dimension ≡ label_count c.kind c.dimension) heads.kinds
-              (subst (λ (n : ℕ). label_count c.kind n ≡ label_count c.kind c.dimension) heads.dimensions refl) in
+    ∙ subst (λ (k : Kind). label_count k u.dimension ≡ label_count c.kind c.dimension) heads.kinds
+    (subst (λ (n : ℕ). label_count c.kind n ≡ label_count c.kind c.dimension) heads.dimensions refl) in
     let on = entries_go_on c.kind c.dimension c.entries u.entries c.rest [] (omega (arith, labels, c.room)) c.sound sound heads.rests in
     let some : 0 < length on.further = omega (arith, labels, c.room, ap (λ (l : List (List (List ℕ))). length l) on.is, length-append c.entries on.further) in
     entry_passes c.kind c.dimension c.rest on.further
-        (All_back (IsEntry c.kind c.dimension) c.entries on.further
-             (subst (λ (l : List (List (List ℕ))). All (IsEntry c.kind c.dimension) l) on.is sound))
-        some on.rest c.passes
+    (All_back (IsEntry c.kind c.dimension) c.entries on.further
+    (subst (λ (l : List (List (List ℕ))). All (IsEntry c.kind c.dimension) l) on.is sound))
+    some on.rest c.passes
 
 -- a whole table has no fault
 no_fault : (bytes : List ℕ) (fault : TableFault) → WrongEdgesStop → IsWholeTable bytes → HasTableFault bytes fault → ⊥
@@ -98,12 +98,20 @@ no_fault bytes (extra_fault p) stops whole has =
     (ap (λ (l : List ℕ). l ++ drop p bytes) (sym front.1.1) ∙ take-append-drop p bytes ∙ whole.1.1 ∙ sym (append-nil (table_bytes whole.0)))).1 in
     omega (arith, ap (λ (l : List ℕ). length l) none, length-drop p bytes, has.0)
 
--- bytes that hold an accepted table are not refused
-not_refused_table : (bytes : List ℕ) (t : Table) (status : Status) → WrongEdgesStop → HoldTable bytes t → IsAccepted t → IsRefusedTable bytes status → ⊥
-not_refused_table bytes t _ stops hold accepted (too_long long) = hold.few long
-not_refused_table bytes t _ stops hold accepted (no_table fault few has) = no_fault bytes fault stops (t, hold.spelled) has
-not_refused_table bytes t _ stops hold accepted (not_accepted u label r held refused) =
+-- the file of a table is not refused by its form
+not_refused_form : (bytes : List ℕ) (t : Table) (status : Status) → WrongEdgesStop → IsFileOf bytes t → IsRefusedForm bytes status → ⊥
+not_refused_form bytes t _ stops hold (too_long long) = hold.few long
+not_refused_form bytes t _ stops hold (no_table fault few has) = no_fault bytes fault stops (t, hold.spelled) has
+
+-- an accepted table fails no rule
+not_refused_rule : (bytes : List ℕ) (t : Table) (status : Status) → IsFileOf bytes t → IsAccepted t → IsRefusedByRule bytes status → ⊥
+not_refused_rule bytes t _ hold accepted (not_accepted u label r held refused) =
     refused.fails (subst IsAccepted (spelled_once bytes t u hold.spelled held.spelled) accepted label r refused.is_label refused.is_rule)
+
+-- the file of an accepted table is not refused
+not_refused_table : (bytes : List ℕ) (t : Table) (status : Status) → WrongEdgesStop → IsFileOf bytes t → IsAccepted t → IsRefusedTable bytes status → ⊥
+not_refused_table bytes t status stops hold accepted (by_form refused) = not_refused_form bytes t status stops hold refused
+not_refused_table bytes t status stops hold accepted (by_rule refused) = not_refused_rule bytes t status hold accepted refused
 
 -- ---- grids
 
@@ -139,7 +147,7 @@ both_have files name P Q p q = (p.0, p.2, subst Q (sym (same_Some p.0 q.0 (sym p
 pub not_refused_check : (files : Files) (name : List ℕ) (t : Table) (status : Status) → WrongEdgesStop → HoldsAccepted (Some files) name t
     → FileHas (Some files) name (λ bytes. IsRefusedTable bytes status) → ⊥
 not_refused_check files name t status stops holds refused =
-    let both = both_have files name (λ bytes. HoldTable bytes t) (λ bytes. IsRefusedTable bytes status) holds.held refused in
+    let both = both_have files name (λ bytes. IsFileOf bytes t) (λ bytes. IsRefusedTable bytes status) holds.table.held refused in
     not_refused_table both.0 t status stops both.1 holds.accepted both.2
 
 -- files that hold an accepted table and a grid of its dimension are not refused
@@ -147,7 +155,7 @@ pub not_refused_mesh : (files : Files) (table grid : List ℕ) (t : Table) (g : 
     → HoldBoth (Some files) table grid t g → IsRefusedMesh (Some files) table grid status → ⊥
 not_refused_mesh files table grid t g status stops holds (by_table refused) = not_refused_check files table t status stops holds.table refused
 not_refused_mesh files table grid t g status stops holds (by_grid u held refused) =
-    let tables = both_have files table (λ bytes. HoldTable bytes t) (λ bytes. HoldTable bytes u) holds.table.held held.held in
+    let tables = both_have files table (λ bytes. IsFileOf bytes t) (λ bytes. IsFileOf bytes u) holds.table.table.held held.table.held in
     let same : t ≡ u = spelled_once tables.0 t u tables.1.spelled tables.2.spelled in
     let both = both_have files grid (λ bytes. SpellsGrid bytes g) (λ bytes. IsRefusedGrid u.dimension bytes status) holds.grid refused in
     not_refused_grid u.dimension both.0 g status both.1 (sym (ap (λ (x : Table). x.dimension) same) ∙ holds.fits) both.2

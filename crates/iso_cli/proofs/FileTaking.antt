@@ -1,8 +1,7 @@
 -- Bytes taken off the front of known bytes.
-use Rattle.std.proofs.Common.{◌≡◌, ℕ, ◌+◌, ◌≤◌, ◌<◌, length, List, ◌++◌, take, Option, Some, None, Ok, append_assoc, arith, subst, ◌∙◌, ap}
+use Rattle.std.proofs.Common.{◌≡◌, ℕ, ◌+◌, ◌≤◌, ◌<◌, length, List, ◌++◌, take, Option, Some, None, Ok, append_assoc, arith, subst, ◌∙◌}
 use Rattle.std.proofs.lemmas.List.{take_all, length-take}
 use Rattle.std.proofs.lemmas.Option.{none-some, same_Some}
-use Rattle.std.specs.Prelude.{unwrap_or}
 use Rattle.iso_base.specs.declared.outside.Failed.{Failed}
 use Rattle.iso_base.specs.Files.{Files, bytes_of, BeginsFile}
 use Rattle.std.specs.Io.KnownBytes.{Consumes}

@@ -1,10 +1,8 @@
 -- What is put to the output.
-use Rattle.std.proofs.Common.{◌≤◌, ℕ, List, Option, refl, arith}
+use Rattle.std.proofs.Common.{ℕ, List, Option}
 use Rattle.iso_cli.specs.declared.status.Status.{Status}
 use Rattle.iso_cli.specs.declared.status.Status.TheVariants as Statuses
-use Rattle.iso_cli.specs.Outputs.{BlamesOutput, LeavesOutput, PutsText}
-use Rattle.iso_cli.specs.Shelves.{BlamesShelf}
-use Rattle.iso_cli.specs.Statuses.{IsDecided, IsOfFiles, IsOfPutting, IsShelfFault, IsUsage}
+use Rattle.iso_cli.specs.Outputs.{LeavesOutput, PutsText}
 
 -- ---- kinds of statuses
 

@@ -16,7 +16,7 @@ use Rattle.table_file.specs.Reading.{HasCause}
 use Rattle.iso_cli.specs.declared.status.Status.{Status}
 use Rattle.iso_cli.specs.declared.status.Status.TheVariants.{Unfit}
 use Rattle.iso_cli.specs.StatusCauses.{grid_status, table_status}
-use Rattle.iso_cli.specs.Refusals.{FileHas, IsRefusedGrid, IsRefusedTable, grid_refusal, no_header, no_samples, no_table, unfit}
+use Rattle.iso_cli.specs.Refusals.{FileHas, IsRefusedForm, IsRefusedGrid, grid_refusal, no_header, no_samples, no_table, unfit}
 use Rattle.iso_cli.specs.Statuses.{IsDecided}
 
 -- what the error has beside what it is
@@ -53,7 +53,7 @@ short bytes few long = let far : 2 ^ 30 < length bytes = long in omega (arith, f
 
 -- bytes that are not too many are refused with the status of their fault
 pub fault_refused : (fault : TableFault) (bytes : List ℕ) → length bytes ≤ 2 ^ 30 → HasCause bytes fault → IsDecided (table_status fault)
-    → IsRefusedTable bytes (table_status fault)
+    → IsRefusedForm bytes (table_status fault)
 fault_refused (TableFaults.Magic place) bytes few cause decided = no_table (magic_fault place) (short bytes few) cause
 fault_refused (TableFaults.Kind place) bytes few cause decided = no_table (kind_fault place) (short bytes few) cause
 fault_refused (TableFaults.EdgeNumber place) bytes few cause decided = no_table (edge_fault place) (short bytes few) cause

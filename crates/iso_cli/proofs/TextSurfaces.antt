@@ -8,14 +8,13 @@ use Rattle.iso_model.specs.Placed.{placed_mesh}
 use Rattle.iso_model.specs.Values.{Grid, volume}
 use Rattle.iso_model.proofs.ArcLaws.{KeepsAll-no_blank}
 use Rattle.surface_laws.proofs.GridSurface.{SuitsGrid, isosurface, linked_by_walks, outer, placed}
-use Rattle.iso_cli.specs.Outputs.{placed_text}
+use Rattle.iso_cli.specs.Outputs.{HasOuterBoundary, IsMeshText, placed_text}
 use Rattle.iso_cli.specs.Refusals.{HoldBoth}
-use Rattle.iso_cli.specs.Runs.{HasOuterBoundary, IsMeshText}
 
 -- the accepted table suits the grid
 suits : (files : Option Files) (table grid : List ℕ) (t : Table) (g : Grid) → HoldBoth files table grid t g → SuitsGrid t.kind g t
 suits files table grid t g held =
-    record { is_regular = held.regular; is_table = held.table.whole; is_accepted = held.table.accepted; of_kind = refl; of_dimension = held.fits }
+    record { is_regular = held.regular; is_table = held.table.table.whole; is_accepted = held.table.accepted; of_kind = refl; of_dimension = held.fits }
 
 -- the boundary is the outer one: each cell is kept, and the simplices are placed
 outer_boundary : (t : Table) (g : Grid) (iso : ℤ) → SuitsGrid t.kind g t

@@ -5,4 +5,5 @@ pub mod Checked
 pub mod Shelves
 pub mod Refusals
 pub mod Outputs
+pub mod Meanings
 pub mod Runs

@@ -1,22 +1,34 @@
 -- What is put to the output.
-use Rattle.std.specs.Prelude.{◌≡◌, ◌≤◌, ℕ, ℤ, List, [], ◌∷◌, ◌++◌, Option, None, codes, ⊤}
+use Rattle.std.specs.Prelude.{◌≡◌, ◌≤◌, ◌↔◌, ℕ, ℤ, List, [], ◌∷◌, ◌++◌, length, map, Contains, Option, None, codes, ⊤}
 use Rattle.std.specs.Io.KnownBytes.{Appends}
 use Rattle.iso_base.specs.Faults.{Rose}
+use Rattle.iso_base.specs.Files.{Files}
 use Rattle.iso_base.specs.Fronts.{AppendsFront}
 use Rattle.iso_model.specs.declared.Kind.{Kind}
+use Rattle.iso_model.specs.Bipolar.{bipolar_edge}
+use Rattle.iso_model.specs.Boundary.{OnBoundary}
 use Rattle.iso_model.specs.Entries.{IsHullTable}
+use Rattle.iso_model.specs.Faces.{face_without}
+use Rattle.iso_model.specs.Isosurfaces.{IsIsosurface}
+use Rattle.iso_model.specs.Links.{IsLinkedByWalks}
+use Rattle.iso_model.specs.Neighbours.{OnOuterBoundary, ends_of}
 use Rattle.iso_formats.specs.MeshText.{mesh_text}
 use Rattle.iso_model.specs.Placed.{placed_mesh}
 use Rattle.iso_formats.specs.TableFile.{table_bytes}
 use Rattle.iso_model.specs.Tables.{Table}
-use Rattle.iso_model.specs.Values.{Grid, volume}
+use Rattle.iso_model.specs.Values.{Grid, Volume, volume}
 use Rattle.iso_cli.specs.declared.status.Status.{Status}
 use Rattle.iso_cli.specs.declared.status.Status.TheVariants as Statuses
+use Rattle.iso_cli.specs.Refusals.{HoldBoth, HoldsAccepted}
 use Rattle.iso_cli.specs.Statuses.{IsRefusal}
 
 -- the text of the placed mesh of a table in a grid at an isovalue
 abbrev pub placed_text : Table → Grid → ℤ → List ℕ
 placed_text t g iso = mesh_text t.dimension (placed_mesh (volume t.kind g iso None) t)
+
+-- the text is that of this mesh
+abbrev pub IsPlacedText : Table → Grid → ℤ → List ℕ → Type 0
+IsPlacedText t g iso text = text ≡ placed_text t g iso
 
 -- the bytes of the table that the construction gives for a kind and a dimension
 pub record IsGenerated (kind : Kind) (d : ℕ) (text : List ℕ) : Type 0 where
@@ -29,6 +41,27 @@ pub record IsGenerated (kind : Kind) (d : ℕ) (text : List ℕ) : Type 0 where
 -- the line for an accepted table
 abbrev pub accepted_line : List ℕ
 accepted_line = codes "accepted" ++ 10 ∷ []
+
+-- the line for the accepted table that the file of this name holds
+abbrev pub IsAcceptance : Option Files → List ℕ → List ℕ → Type 0
+IsAcceptance files table text = (t : Table) × HoldsAccepted files table t × (text ≡ accepted_line)
+
+-- a face of a simplex lies on the boundary exactly where the ends of its edges lie on the outer boundary of the grid
+abbrev pub HasOuterBoundary : Volume → List (List ℕ) → Type 0
+HasOuterBoundary v simplices = (w : List ℕ) (i : ℕ) → Contains simplices w
+    → OnBoundary v (face_without w i) ↔ OnOuterBoundary v.sizes (ends_of (map (bipolar_edge v) (face_without w i)))
+
+-- the text of the placed mesh of the table and the grid that the files hold, at the isovalue; and this mesh is an isosurface, whose boundary is
+-- on that of the grid, and in three dimensions the triangles at each vertex are met by one walk, which closes exactly where the vertex is not on
+-- that boundary
+pub record IsMeshText (files : Option Files) (table grid : List ℕ) (iso : ℤ) (text : List ℕ) : Type 0 where
+  pub t : Table
+  pub g : Grid
+  pub held : HoldBoth files table grid t g
+  pub spelled : text ≡ placed_text t g iso
+  pub surface : IsIsosurface (volume t.kind g iso None) (placed_mesh (volume t.kind g iso None) t)
+  pub outer : HasOuterBoundary (volume t.kind g iso None) (placed_mesh (volume t.kind g iso None) t).simplices
+  pub walks : length g.sizes ≡ 3 → IsLinkedByWalks (volume t.kind g iso None) (placed_mesh (volume t.kind g iso None) t).simplices
 
 -- a fault of the output is answered only where its count rose, and with the count after it
 abbrev pub BlamesOutput : Status → ℕ → ℕ → Type 0

@@ -1,6 +1,6 @@
 -- Which refusals the bytes of the files decide, and what the files hold where they decide none.
-use Rattle.std.specs.Prelude.{◌≡◌, ◌≢◌, ℕ, List, length, Option, Some, None, ⊤}
-use Rattle.iso_base.specs.Files.{Files, file_bytes}
+use Rattle.std.specs.Prelude.{◌≡◌, ◌≢◌, ◌⊎◌, ℕ, List, length, Option, Some, None, ⊤}
+use Rattle.iso_base.specs.Files.{Files, bytes_of, file_bytes}
 use Rattle.iso_model.specs.Acceptance.{IsAccepted, IsRefusedAt}
 use Rattle.iso_formats.specs.GridFile.{Header, HasHeader, SpellsGrid}
 use Rattle.iso_formats.specs.GridFaults.{GridFault, HasHeaderFault, HasSampleFault, wrong_magic, header_too_long, header_unended, unreadable_line}
@@ -20,10 +20,14 @@ abbrev pub FileHas : Option Files → List ℕ → (List ℕ → Type 0) → Typ
 FileHas None name P = ⊤
 FileHas (Some files) name P = (bytes : List ℕ) × (file_bytes files name ≡ Some bytes) × P bytes
 
--- ---- the table
+-- where the files are told, a file of this name is there, and its bytes are refused with this status
+abbrev pub IsRefusedFile : Option Files → List ℕ → (List ℕ → Status → Type 0) → Status → Type 0
+IsRefusedFile files name IsRefused status = FileHas files name (λ bytes. IsRefused bytes status)
 
--- the bytes are those of the table, and not too many
-pub record HoldTable (bytes : List ℕ) (t : Table) : Type 0 where
+-- ---- the form of a table file
+
+-- the bytes are the file of the table: those that spell it, and not too many
+pub record IsFileOf (bytes : List ℕ) (t : Table) : Type 0 where
   pub few : ¬ IsTooLong bytes
   pub spelled : SpellsTable bytes t
 
@@ -35,17 +39,31 @@ table_refusal (edge_fault place) = Statuses.TableForm (Forms.Fault place TableCa
 table_refusal (short_fault place) = Statuses.TableForm (Forms.Fault place TableCauses.Short)
 table_refusal (extra_fault place) = Statuses.TableForm (Forms.Fault place TableCauses.Extra)
 
--- the bytes of a table file are refused: there are too many, or else they have a fault, or else they are those of a table that fails a rule, the
--- least one of the least label that fails any
-pub data IsRefusedTable (bytes : List ℕ) : Status → Type 0 where
-  too_long : IsTooLong bytes → IsRefusedTable bytes (Statuses.TableForm Forms.Long)
-  no_table : (fault : TableFault) → ¬ IsTooLong bytes → HasTableFault bytes fault → IsRefusedTable bytes (table_refusal fault)
-  not_accepted : (t : Table) (label r : ℕ) → HoldTable bytes t → IsRefusedAt t label r → IsRefusedTable bytes (Statuses.TableRefused label r)
+-- the bytes are the file of no table: there are too many, or else they have a fault
+pub data IsRefusedForm (bytes : List ℕ) : Status → Type 0 where
+  too_long : IsTooLong bytes → IsRefusedForm bytes (Statuses.TableForm Forms.Long)
+  no_table : (fault : TableFault) → ¬ IsTooLong bytes → HasTableFault bytes fault → IsRefusedForm bytes (table_refusal fault)
 
--- the file of this name holds the table, which is accepted
-pub record HoldsAccepted (files : Option Files) (name : List ℕ) (t : Table) : Type 0 where
-  pub held : FileHas files name (λ bytes. HoldTable bytes t)
+-- the file of this name is that of the table, whether it is accepted or not
+pub record HoldsTable (files : Option Files) (name : List ℕ) (t : Table) : Type 0 where
+  pub held : FileHas files name (λ bytes. IsFileOf bytes t)
   pub whole : IsTable t
+
+-- ---- the acceptance of a table
+
+-- the bytes are the file of a table that fails a rule, the least one of the least label that fails any
+pub data IsRefusedByRule (bytes : List ℕ) : Status → Type 0 where
+  not_accepted : (t : Table) (label r : ℕ) → IsFileOf bytes t → IsRefusedAt t label r
+      → IsRefusedByRule bytes (Statuses.TableRefused label r)
+
+-- the bytes of a file whose table is to be accepted are refused: by their form, or by a rule that their table fails
+pub data IsRefusedTable (bytes : List ℕ) (status : Status) : Type 0 where
+  by_form : IsRefusedForm bytes status → IsRefusedTable bytes status
+  by_rule : IsRefusedByRule bytes status → IsRefusedTable bytes status
+
+-- the file of this name is that of the table, which is accepted
+pub record HoldsAccepted (files : Option Files) (name : List ℕ) (t : Table) : Type 0 where
+  pub table : HoldsTable files name t
   pub accepted : IsAccepted t
 
 -- ---- the grid
@@ -77,7 +95,7 @@ pub data IsRefusedGrid (d : ℕ) (bytes : List ℕ) : Status → Type 0 where
   no_samples : (h : Header) (data_bytes : List ℕ) (fault : GridFault) → HasHeader bytes h data_bytes → d ≡ length h.sizes
       → HasSampleFault h data_bytes fault → IsRefusedGrid d bytes (grid_refusal fault)
 
--- ---- the files of a command
+-- ---- a table and a grid
 
 -- the files hold an accepted table, and a grid of its dimension
 pub record HoldBoth (files : Option Files) (table_name grid_name : List ℕ) (t : Table) (g : Grid) : Type 0 where
@@ -91,3 +109,7 @@ pub data IsRefusedMesh (files : Option Files) (table_name grid_name : List ℕ) 
   by_table : FileHas files table_name (λ bytes. IsRefusedTable bytes status) → IsRefusedMesh files table_name grid_name status
   by_grid : (t : Table) → HoldsAccepted files table_name t → FileHas files grid_name (λ bytes. IsRefusedGrid t.dimension bytes status)
       → IsRefusedMesh files table_name grid_name status
+
+-- a file that a mesh needs is not there: that of the table; or that of the grid, where the other one holds an accepted table
+abbrev pub LacksMeshFile : Option Files → List ℕ → List ℕ → Type 0
+LacksMeshFile files table grid = (bytes_of files table ≡ None) ⊎ ((t : Table) × HoldsAccepted files table t × (bytes_of files grid ≡ None))

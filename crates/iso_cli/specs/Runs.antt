@@ -1,27 +1,16 @@
 -- What a run of the program promises: its answer, what it leaves of the shelf, what it puts to the output, and the line.
-use Rattle.std.specs.Prelude.{◌≡◌, ◌≤◌, ◌⊎◌, ◌↔◌, ℕ, ℤ, List, [], ◌∷◌, length, map, Contains, Option, None, IsSome, IsTrue, ⊤}
+use Rattle.std.specs.Prelude.{◌≡◌, ◌≤◌, ◌⊎◌, ℕ, List, [], Option, IsSome, IsTrue}
 use Rattle.std.specs.List.{AllByRecursion}
 use Rattle.std.specs.Io.KnownBytes.{Appends}
 use Rattle.iso_base.specs.Faults.{Rose}
 use Rattle.iso_base.specs.Files.{Files, bytes_of}
 use Rattle.iso_base.specs.Fronts.{AppendsFront}
-use Rattle.iso_model.specs.declared.Kind.{Kind}
-use Rattle.iso_formats.specs.Commands.{Command, Say, generate_command, check_command, extract_command, demo_command, AreRight, IsWrongWord}
-use Rattle.iso_model.specs.Bipolar.{bipolar_edge}
-use Rattle.iso_model.specs.Boundary.{OnBoundary}
-use Rattle.iso_model.specs.Faces.{face_without}
-use Rattle.iso_model.specs.Neighbours.{OnOuterBoundary, ends_of}
-use Rattle.iso_model.specs.Isosurfaces.{IsIsosurface}
-use Rattle.iso_model.specs.Links.{IsLinkedByWalks}
-use Rattle.iso_model.specs.Placed.{placed_mesh}
-use Rattle.iso_model.specs.Tables.{Table}
-use Rattle.iso_model.specs.Values.{Grid, Volume, volume}
-use Rattle.iso_words.specs.Built.{is_built}
+use Rattle.iso_formats.specs.Commands.{Command, Say, AreRight, IsWrongWord}
+use Rattle.iso_words.specs.Built.{EachSaid, is_built}
 use Rattle.iso_cli.specs.declared.status.Status.{Status}
 use Rattle.iso_cli.specs.declared.status.Status.TheVariants as Statuses
-use Rattle.iso_cli.specs.Outputs.{IsGenerated, accepted_line, placed_text}
-use Rattle.iso_cli.specs.Refusals.{FileHas, HoldBoth, HoldsAccepted, IsRefusedMesh, IsRefusedTable}
 use Rattle.iso_base.specs.Shelves.{IsSameShelf}
+use Rattle.iso_cli.specs.Meanings.{meaning}
 use Rattle.iso_cli.specs.Shelves.{BlamesShelf}
 use Rattle.iso_cli.specs.Statuses.{IsDecided, IsOfPutting, IsShelfFault, IsUsage}
 use Rattle.iso_cli.specs.StatusLines.{status_line}
@@ -34,10 +23,7 @@ SayBuilt words P = (command : Command) × IsTrue (is_built command) × Say words
 
 -- the files of a command are refused with this status
 abbrev pub AreRefused : Option Files → Status → Command → Type 0
-AreRefused files status (generate_command kind d) = ⊥
-AreRefused files status (check_command table) = FileHas files table (λ bytes. IsRefusedTable bytes status)
-AreRefused files status (extract_command table grid iso) = IsRefusedMesh files table grid status
-AreRefused files status (demo_command kind d size seed) = ⊥
+AreRefused files status command = (meaning command).refuses files status
 
 -- where the status is a refusal that the files decide, it is the one that they decide for the command
 abbrev pub IsTrueOf : Option Files → Status → Command → Type 0
@@ -53,40 +39,26 @@ IsTrueAnswer files words status = SayBuilt words (IsTrueOf files status)
 abbrev pub IsAnswerable : Option Files → List (List ℕ) → Type 0
 IsAnswerable files words = AreRight is_built words × ((status : Status) → IsDecided status → ¬ IsTrueAnswer files words status)
 
--- the files hold what a command needs: for a generated table nothing, for the check an accepted table, and for a mesh such a table and a grid of its dimension
+-- the files hold what a command needs
 abbrev pub HoldNeeded : Option Files → Command → Type 0
-HoldNeeded files (generate_command kind d) = ⊤
-HoldNeeded files (check_command table) = (t : Table) × HoldsAccepted files table t
-HoldNeeded files (extract_command table grid iso) = (t : Table) × (g : Grid) × HoldBoth files table grid t g
-HoldNeeded files (demo_command kind d size seed) = ⊥
+HoldNeeded files command = (meaning command).needs files
 
 -- ---- the shelf
 
 -- the names of the files that a command reads
 abbrev pub files_named : Command → List (List ℕ)
-files_named (generate_command kind d) = []
-files_named (check_command table) = table ∷ []
-files_named (extract_command table grid iso) = table ∷ grid ∷ []
-files_named (demo_command kind d size seed) = []
+files_named command = (meaning command).reads
 
 -- each file that the words name is there
 abbrev pub HasNamedFiles : Option Files → List (List ℕ) → Type 0
 HasNamedFiles files words = (command : Command) → Say words command → AllByRecursion (λ name. IsSome (bytes_of files name)) (files_named command)
 
--- a file that a mesh needs is not there: that of the table; or that of the grid, where the other one holds an accepted table
-abbrev pub LacksMeshFile : Option Files → List ℕ → List ℕ → Type 0
-LacksMeshFile files table grid = (bytes_of files table ≡ None) ⊎ ((t : Table) × HoldsAccepted files table t × (bytes_of files grid ≡ None))
-
 -- a file that a command names is not there, and no file that is read before it is refused
 abbrev pub LacksFile : Option Files → Command → Type 0
-LacksFile files (generate_command kind d) = ⊥
-LacksFile files (check_command table) = bytes_of files table ≡ None
-LacksFile files (extract_command table grid iso) = LacksMeshFile files table grid
-LacksFile files (demo_command kind d size seed) = ⊥
+LacksFile files command = (meaning command).lacks files
 
 -- the shelf is as it was but for its count of faults and what was taken of its files; it is blamed only where its count rose, and with the count
--- after the run; where it was sound,
--- only for a file that is lacking; and for wrong words it is not touched at all
+-- after the run; where it was sound, only for a file that is lacking; and for wrong words it is not touched at all
 pub record LeavesShelf {S : Type 0} (faults : S → ℕ) (files : S → Option Files) (sound : S → Type 0) (Lacks : Type 0) (status : Status) (old new : S)
     : Type 0 where
   pub same : IsSameShelf faults files sound old new
@@ -100,35 +72,16 @@ ServesWell faults files sound words old new = ¬ Rose (faults old) (faults new) 
 
 -- ---- the output
 
--- a face of a simplex lies on the boundary exactly where the ends of its edges lie on the outer boundary of the grid
-abbrev pub HasOuterBoundary : Volume → List (List ℕ) → Type 0
-HasOuterBoundary v simplices = (w : List ℕ) (i : ℕ) → Contains simplices w
-    → OnBoundary v (face_without w i) ↔ OnOuterBoundary v.sizes (ends_of (map (bipolar_edge v) (face_without w i)))
-
--- the text of the placed mesh of the table and the grid that the files hold, at the isovalue; and this mesh is an isosurface, whose boundary is on
--- that of the grid,
--- and in three dimensions the triangles at each vertex are met by one walk, which closes exactly where the vertex is not on that boundary
-pub record IsMeshText (files : Option Files) (table grid : List ℕ) (iso : ℤ) (text : List ℕ) : Type 0 where
-  pub t : Table
-  pub g : Grid
-  pub held : HoldBoth files table grid t g
-  pub spelled : text ≡ placed_text t g iso
-  pub surface : IsIsosurface (volume t.kind g iso None) (placed_mesh (volume t.kind g iso None) t)
-  pub outer : HasOuterBoundary (volume t.kind g iso None) (placed_mesh (volume t.kind g iso None) t).simplices
-  pub walks : length g.sizes ≡ 3 → IsLinkedByWalks (volume t.kind g iso None) (placed_mesh (volume t.kind g iso None) t).simplices
-
 -- the whole output of a command
 abbrev pub IsOutput : Option Files → List ℕ → Command → Type 0
-IsOutput files text (generate_command kind d) = IsGenerated kind d text
-IsOutput files text (check_command table) = (t : Table) × HoldsAccepted files table t × (text ≡ accepted_line)
-IsOutput files text (extract_command table grid iso) = IsMeshText files table grid iso text
-IsOutput files text (demo_command kind d size seed) = ⊥
+IsOutput files text command = (meaning command).puts files text
 
--- ---- generated tables
+-- ---- commands without files
 
--- for a generated table the shelf is not touched, and the run ends with the whole output, with a fault of it, or without memory
+-- for a command that reads no file, as for a generated table, the shelf is not touched, and the run ends with the whole output, with a fault of it,
+-- or without memory
 abbrev pub NeedsNoFile : {S : Type 0} → List (List ℕ) → Status → S → S → Type 0
-NeedsNoFile words status old new = (kind : Kind) (d : ℕ) → Say words (generate_command kind d) → IsOfPutting status × (new ≡ old)
+NeedsNoFile words status old new = EachSaid words (λ command. files_named command ≡ [] → IsOfPutting status × (new ≡ old))
 
 -- ---- the line
 

@@ -1,8 +1,9 @@
 -- When a status may blame the shelf, and what stands at the front of a file.
-use Rattle.std.specs.Prelude.{◌≡◌, ℕ, List, take, Option, Some, None, IfSome}
+use Rattle.std.specs.Prelude.{◌≡◌, ℕ, List, take, Option, Some, None, Result, IfErr, IfSome}
 use Rattle.iso_base.specs.Shelves.{IsFairBlame}
 use Rattle.iso_cli.specs.declared.status.Status.{Status}
 use Rattle.iso_cli.specs.declared.status.Status.TheVariants.{ShelfFault}
+use Rattle.iso_cli.specs.Statuses.{IsShelfFault}
 
 -- the count with which a status blames the shelf
 abbrev pub blame_of : Status → Option ℕ
@@ -12,6 +13,10 @@ blame_of status = None
 -- a fault of the shelf is answered only where its count rose, and with the count after it
 abbrev pub BlamesShelf : Status → ℕ → ℕ → Type 0
 BlamesShelf status before now = IsFairBlame before now (blame_of status)
+
+-- where the shelf was sound, a fault of it is answered only for this
+abbrev pub FailsOnlyFor : {T : Type 0} → Type 0 → Type 0 → Result T Status → Type 0
+FailsOnlyFor Lacks sound result = sound → IfErr result (λ status. IsShelfFault status → Lacks)
 
 -- these are all known bytes, or the first so many of them
 abbrev pub AreFrontOf : ℕ → Option (List ℕ) → List ℕ → Type 0

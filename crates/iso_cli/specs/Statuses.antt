@@ -1,5 +1,5 @@
 -- Kinds of statuses.
-use Rattle.std.specs.Prelude.{⊤}
+use Rattle.std.specs.Prelude.{Result, IfErr, ⊤}
 use Rattle.iso_cli.specs.declared.status.Status.{Status}
 use Rattle.iso_cli.specs.declared.status.Status.TheVariants as Statuses
 
@@ -28,6 +28,10 @@ IsDecided (Statuses.Unfit table grid) = ⊤
 IsDecided (Statuses.GridLarge count) = ⊤
 IsDecided status = ⊥
 
+-- where the error is a refusal that the bytes of the files decide, this holds of it
+abbrev pub IfDecided : {T : Type 0} → Result T Status → (Status → Type 0) → Type 0
+IfDecided result P = IfErr result (λ status. IsDecided status → P status)
+
 -- the whole output was put, or memory was refused
 abbrev pub IsDoneOrMemory : Status → Type 0
 IsDoneOrMemory Statuses.Done = ⊤
@@ -39,6 +43,13 @@ abbrev pub IsOfReading : Status → Type 0
 IsOfReading Statuses.Memory = ⊤
 IsOfReading (Statuses.ShelfFault count) = ⊤
 IsOfReading status = ⊥
+
+-- a refusal that reading the form of the table may end with
+abbrev pub IsOfForm : Status → Type 0
+IsOfForm Statuses.Memory = ⊤
+IsOfForm (Statuses.ShelfFault count) = ⊤
+IsOfForm (Statuses.TableForm form) = ⊤
+IsOfForm status = ⊥
 
 -- a refusal that reading the table may end with
 abbrev pub IsOfTable : Status → Type 0

@@ -2,15 +2,15 @@
 
 ghost use Rattle.std.specs.Prelude.{◌≡◌, length, None, IfOk, IfErr};
 ghost use Rattle.iso_base.specs.Files.{bytes_of};
+ghost use Rattle.iso_base.specs.Shelves.{IsSameShelf};
 ghost use Rattle.iso_formats.specs.GridFile.{SpellsGrid};
 ghost use Rattle.iso_model.specs.Values.{IsRegularGrid};
 ghost use Rattle.table_file.specs.Reading.{table_in};
 ghost use Rattle.iso_cli.specs.Checked.{checked_in};
-ghost use Rattle.iso_cli.specs.Refusals.{FileHas, HoldBoth, HoldTable, HoldsAccepted, IsRefusedGrid, IsRefusedMesh, IsRefusedTable};
-ghost use Rattle.iso_cli.specs.Runs.{LacksMeshFile};
-ghost use Rattle.iso_base.specs.Shelves.{IsSameShelf};
-ghost use Rattle.iso_cli.specs.Shelves.{BlamesShelf};
-ghost use Rattle.iso_cli.specs.Statuses.{IsDecided, IsOfFiles, IsOfGrid, IsOfTable, IsShelfFault};
+ghost use Rattle.iso_cli.specs.Refusals.{FileHas, HoldBoth, HoldsAccepted, HoldsTable, LacksMeshFile};
+ghost use Rattle.iso_cli.specs.Refusals.{IsRefusedFile, IsRefusedForm, IsRefusedGrid, IsRefusedMesh, IsRefusedTable};
+ghost use Rattle.iso_cli.specs.Shelves.{BlamesShelf, FailsOnlyFor};
+ghost use Rattle.iso_cli.specs.Statuses.{IfDecided, IsOfFiles, IsOfForm, IsOfGrid, IsOfTable};
 
 use crate::checked::{CheckedTable, certify_any, dimension};
 use crate::read::read_front;
@@ -23,14 +23,14 @@ use table_file::{AnyTable, decode};
 /// The most bytes that a table file has.
 const TABLE_LIMIT: usize = 1 << 30;
 
-/// Reads the table of a file.
+/// Reads the table of a file, whether it is accepted or not.
 fn read_table<S: Shelf>(alloc: Global, shelf: &mut S, name: &str) -> Result<AnyTable, Status>
     ensures shelf { IsSameShelf S.faults S.files S.sound shelf.old shelf.new }
     ensures blamed { IfErr result (λ status. BlamesShelf status (S.faults shelf.old) (S.faults shelf.new)) }
-    ensures missing { S.sound shelf.old → IfErr result (λ status. IsShelfFault status → bytes_of (S.files shelf.old) name.now ≡ None) }
-    ensures kinds { IfErr result IsOfTable }
-    ensures refused { IfErr result (λ status. IsDecided status → FileHas (S.files shelf.old) name.now (λ bytes. IsRefusedTable bytes status)) }
-    ensures held { IfOk result (λ table. FileHas (S.files shelf.old) name.now (λ bytes. HoldTable bytes (table_in table))) }
+    ensures missing { FailsOnlyFor (bytes_of (S.files shelf.old) name.now ≡ None) (S.sound shelf.old) result }
+    ensures kinds { IfErr result IsOfForm }
+    ensures refused { IfDecided result (IsRefusedFile (S.files shelf.old) name.now IsRefusedForm) }
+    ensures held { IfOk result (λ table. HoldsTable (S.files shelf.old) name.now (table_in table)) }
 {
     shelf.begin(name)?;
     let bytes = read_front(alloc, shelf, TABLE_LIMIT + 1)?;
@@ -48,9 +48,9 @@ pub fn read_checked<S: Shelf>(
 ) -> Result<CheckedTable, Status>
     ensures shelf { IsSameShelf S.faults S.files S.sound shelf.old shelf.new }
     ensures blamed { IfErr result (λ status. BlamesShelf status (S.faults shelf.old) (S.faults shelf.new)) }
-    ensures missing { S.sound shelf.old → IfErr result (λ status. IsShelfFault status → bytes_of (S.files shelf.old) name.now ≡ None) }
+    ensures missing { FailsOnlyFor (bytes_of (S.files shelf.old) name.now ≡ None) (S.sound shelf.old) result }
     ensures kinds { IfErr result IsOfTable }
-    ensures refused { IfErr result (λ status. IsDecided status → FileHas (S.files shelf.old) name.now (λ bytes. IsRefusedTable bytes status)) }
+    ensures refused { IfDecided result (IsRefusedFile (S.files shelf.old) name.now IsRefusedTable) }
     ensures held { IfOk result (λ table. HoldsAccepted (S.files shelf.old) name.now (checked_in table)) }
 {
     let table = read_table(alloc, shelf, name)?;
@@ -66,9 +66,9 @@ fn read_grid<S: Shelf>(
 ) -> Result<Grid, Status>
     ensures shelf { IsSameShelf S.faults S.files S.sound shelf.old shelf.new }
     ensures blamed { IfErr result (λ status. BlamesShelf status (S.faults shelf.old) (S.faults shelf.new)) }
-    ensures missing { S.sound shelf.old → IfErr result (λ status. IsShelfFault status → bytes_of (S.files shelf.old) name.now ≡ None) }
+    ensures missing { FailsOnlyFor (bytes_of (S.files shelf.old) name.now ≡ None) (S.sound shelf.old) result }
     ensures kinds { IfErr result IsOfGrid }
-    ensures refused { IfErr result (λ status. IsDecided status → FileHas (S.files shelf.old) name.now (λ bytes. IsRefusedGrid dimension bytes status)) }
+    ensures refused { IfDecided result (IsRefusedFile (S.files shelf.old) name.now (IsRefusedGrid dimension)) }
     ensures held { IfOk result (λ grid. FileHas (S.files shelf.old) name.now (λ bytes. SpellsGrid bytes grid)) }
     ensures fits { IfOk result (λ grid. dimension ≡ length grid.sizes) }
     ensures regular { IfOk result IsRegularGrid }
@@ -94,9 +94,9 @@ pub fn read_both<S: Shelf>(
 ) -> Result<(CheckedTable, Grid), Status>
     ensures shelf { IsSameShelf S.faults S.files S.sound shelf.old shelf.new }
     ensures blamed { IfErr result (λ status. BlamesShelf status (S.faults shelf.old) (S.faults shelf.new)) }
-    ensures missing { S.sound shelf.old → IfErr result (λ status. IsShelfFault status → LacksMeshFile (S.files shelf.old) table.now grid.now) }
+    ensures missing { FailsOnlyFor (LacksMeshFile (S.files shelf.old) table.now grid.now) (S.sound shelf.old) result }
     ensures kinds { IfErr result IsOfFiles }
-    ensures refused { IfErr result (λ status. IsDecided status → IsRefusedMesh (S.files shelf.old) table.now grid.now status) }
+    ensures refused { IfDecided result (IsRefusedMesh (S.files shelf.old) table.now grid.now) }
     ensures held { IfOk result (λ both. HoldBoth (S.files shelf.old) table.now grid.now (checked_in both.0) both.1) }
 {
     let table = read_checked(alloc, shelf, table)?;

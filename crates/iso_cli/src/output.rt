@@ -4,7 +4,7 @@ ghost use Rattle.std.specs.Prelude.{◌≡◌, ◌^◌, ◌≤◌, length, unsig
 ghost use Rattle.iso_model.specs.Cells.{HasDimension};
 ghost use Rattle.iso_model.specs.Values.{IsRegularGrid};
 ghost use Rattle.iso_cli.specs.Checked.{checked_in};
-ghost use Rattle.iso_cli.specs.Outputs.{IsGenerated, LeavesOutput, accepted_line, placed_text};
+ghost use Rattle.iso_cli.specs.Outputs.{IsGenerated, IsPlacedText, LeavesOutput, accepted_line};
 ghost use Rattle.iso_cli.specs.Statuses.{IsOfPutting};
 
 use crate::checked::CheckedTable;
@@ -88,7 +88,8 @@ pub fn put_mesh<O: Sink>(
     requires fits { (checked_in table.now).dimension ≡ length grid.now.sizes }
     requires iso { unsigned_abs iso ≤ 2 ^ 40 }
     ensures kinds { IsOfPutting result }
-    ensures output { LeavesOutput O.faults O.bytes (λ text. text ≡ placed_text (checked_in table.now) grid.now iso) result out.old out.new }
+    ensures output { LeavesOutput O.faults O.bytes
+        (IsPlacedText (checked_in table.now) grid.now iso) result out.old out.new }
 {
     match table {
         CheckedTable::Squares(table) => put_placed(alloc, table, grid, iso, out),
@@ -113,7 +114,7 @@ fn put_placed<C: Split<D>, const D: usize, O: Sink>(
     requires fits { table.now.dimension ≡ length grid.now.sizes }
     requires iso { unsigned_abs iso ≤ 2 ^ 40 }
     ensures kinds { IsOfPutting result }
-    ensures output { LeavesOutput O.faults O.bytes (λ text. text ≡ placed_text table.now grid.now iso) result out.old out.new }
+    ensures output { LeavesOutput O.faults O.bytes (IsPlacedText table.now grid.now iso) result out.old out.new }
 {
     // What an accepted table holds is known from here on.
     let _ = table.table();

@@ -5,7 +5,8 @@ ghost use Rattle.iso_base.specs.Faults.{Rose};
 ghost use Rattle.iso_formats.specs.Commands.{check_command, extract_command};
 ghost use Rattle.iso_words.specs.Built.{texts};
 ghost use Rattle.iso_cli.specs.Outputs.{LeavesOutput};
-ghost use Rattle.iso_cli.specs.Runs.{HoldNeeded, IsAnswerable, IsOutput, IsTrueAnswer, IsTrueOf, LacksFile, LeavesShelf, NeedsNoFile, PutsLine, SayBuilt, ServesWell};
+ghost use Rattle.iso_cli.specs.Runs.{HoldNeeded, IsAnswerable, IsOutput, IsTrueAnswer, IsTrueOf, LacksFile, SayBuilt};
+ghost use Rattle.iso_cli.specs.Runs.{LeavesShelf, NeedsNoFile, PutsLine, ServesWell};
 ghost use Rattle.iso_cli.specs.Statuses.{IsDoneOrMemory, IsUsage};
 
 use crate::files::{read_both, read_checked};
@@ -41,9 +42,11 @@ pub fn run<S: Shelf, O: Sink, E: Sink>(
         → IsSome (S.files shelf.old) → SayBuilt (texts words.now) (HoldNeeded (S.files shelf.old))
         → IsDoneOrMemory result }
 
-    ensures shelf { LeavesShelf S.faults S.files S.sound (SayBuilt (texts words.now) (LacksFile (S.files shelf.old))) result shelf.old shelf.new }
-    ensures output { LeavesOutput O.faults O.bytes (λ text. SayBuilt (texts words.now) (IsOutput (S.files shelf.old) text)) result out.old out.new }
-    // A table is generated without a file.
+    ensures shelf { LeavesShelf S.faults S.files S.sound
+        (SayBuilt (texts words.now) (LacksFile (S.files shelf.old))) result shelf.old shelf.new }
+    ensures output { LeavesOutput O.faults O.bytes
+        (λ text. SayBuilt (texts words.now) (IsOutput (S.files shelf.old) text)) result out.old out.new }
+    // A command that reads no file, as that which generates a table, leaves the shelf alone.
     ensures generated { NeedsNoFile (texts words.now) result shelf.old shelf.new }
 
     ensures line { PutsLine E.faults E.bytes result err.old err.new }
@@ -61,8 +64,10 @@ pub fn run<S: Shelf, O: Sink, E: Sink>(
 // What the words ask.
 fn perform<S: Shelf, O: Sink>(alloc: Global, words: &[String], shelf: &mut S, out: &mut O) -> Status
     ensures answer { IsTrueAnswer (S.files shelf.old) (texts words.now) result }
-    ensures shelf { LeavesShelf S.faults S.files S.sound (SayBuilt (texts words.now) (LacksFile (S.files shelf.old))) result shelf.old shelf.new }
-    ensures output { LeavesOutput O.faults O.bytes (λ text. SayBuilt (texts words.now) (IsOutput (S.files shelf.old) text)) result out.old out.new }
+    ensures shelf { LeavesShelf S.faults S.files S.sound
+        (SayBuilt (texts words.now) (LacksFile (S.files shelf.old))) result shelf.old shelf.new }
+    ensures output { LeavesOutput O.faults O.bytes
+        (λ text. SayBuilt (texts words.now) (IsOutput (S.files shelf.old) text)) result out.old out.new }
     ensures generated { NeedsNoFile (texts words.now) result shelf.old shelf.new }
 {
     match parse(words) {
@@ -77,8 +82,10 @@ fn perform<S: Shelf, O: Sink>(alloc: Global, words: &[String], shelf: &mut S, ou
 fn check<S: Shelf, O: Sink>(alloc: Global, table: &str, shelf: &mut S, out: &mut O) -> Status
     ensures known { ¬ IsUsage result }
     ensures answer { IsTrueOf (S.files shelf.old) result (check_command table.now) }
-    ensures shelf { LeavesShelf S.faults S.files S.sound (LacksFile (S.files shelf.old) (check_command table.now)) result shelf.old shelf.new }
-    ensures output { LeavesOutput O.faults O.bytes (λ text. IsOutput (S.files shelf.old) text (check_command table.now)) result out.old out.new }
+    ensures shelf { LeavesShelf S.faults S.files S.sound
+        (LacksFile (S.files shelf.old) (check_command table.now)) result shelf.old shelf.new }
+    ensures output { LeavesOutput O.faults O.bytes
+        (λ text. IsOutput (S.files shelf.old) text (check_command table.now)) result out.old out.new }
 {
     match read_checked(alloc, shelf, table) {
         Ok(_) => put_accepted(out),
@@ -98,8 +105,10 @@ fn extract<S: Shelf, O: Sink>(
     requires iso { unsigned_abs iso ≤ 2 ^ 40 }
     ensures known { ¬ IsUsage result }
     ensures answer { IsTrueOf (S.files shelf.old) result (extract_command table.now grid.now iso) }
-    ensures shelf { LeavesShelf S.faults S.files S.sound (LacksFile (S.files shelf.old) (extract_command table.now grid.now iso)) result shelf.old shelf.new }
-    ensures output { LeavesOutput O.faults O.bytes (λ text. IsOutput (S.files shelf.old) text (extract_command table.now grid.now iso)) result out.old out.new }
+    ensures shelf { LeavesShelf S.faults S.files S.sound
+        (LacksFile (S.files shelf.old) (extract_command table.now grid.now iso)) result shelf.old shelf.new }
+    ensures output { LeavesOutput O.faults O.bytes
+        (λ text. IsOutput (S.files shelf.old) text (extract_command table.now grid.now iso)) result out.old out.new }
 {
     match read_both(alloc, shelf, table, grid) {
         Ok((table, grid)) => put_mesh(alloc, &table, &grid, iso, out),

@@ -3,8 +3,7 @@ use Rattle.iso_base.specs.Files.{Files, bytes_of}
 use Rattle.iso_formats.specs.GridFile.{SpellsGrid}
 use Rattle.iso_cli.specs.declared.status.Status.{Status}
 use Rattle.iso_cli.specs.Checked.{checked_in}
-use Rattle.iso_cli.specs.Refusals.{FileHas, IsRefusedGrid, IsRefusedMesh, by_grid}
-use Rattle.iso_cli.specs.Runs.{LacksMeshFile}
+use Rattle.iso_cli.specs.Refusals.{FileHas, IsRefusedGrid, IsRefusedMesh, LacksMeshFile, by_grid}
 use Rattle.iso_cli.specs.Statuses.{IsDecided, IsShelfFault}
 use Rattle.iso_cli.proofs.Answering.{file_stays}
 use Rattle.iso_cli.proofs.Refusing.{IfErr-more}
@@ -13,12 +12,12 @@ use Rattle.iso_cli.proofs.files.read_both.Goals as goal
 pub returns-in_err-grid-clause-refused : goal.returns-in_err-grid-clause-refused
 returns-in_err-grid-clause-refused g c =
     let refused : IsDecided c.in_err-grid.field-0.0
-        → IsRefusedMesh (g.S.Shelf.files c.args.shelf.now) c.args.table.now c.args.grid.now c.in_err-grid.field-0.0 =
+    → IsRefusedMesh (g.S.Shelf.files c.args.shelf.now) c.args.table.now c.args.grid.now c.in_err-grid.field-0.0 =
     λ decided. by_grid (checked_in c.in_ok-table.table) c.in_ok-table.ensures.held
     (file_stays (g.S.Shelf.files c.read_checked.new.shelf) (g.S.Shelf.files c.args.shelf.now) c.args.grid.now
-        (λ bytes. IsRefusedGrid (checked_in c.in_ok-table.table).dimension bytes c.in_err-grid.field-0.0) c.in_ok-table.ensures.shelf.stay
+    (λ bytes. IsRefusedGrid (checked_in c.in_ok-table.table).dimension bytes c.in_err-grid.field-0.0) c.in_ok-table.ensures.shelf.stay
     (subst (λ (n : ℕ). FileHas (g.S.Shelf.files c.read_checked.new.shelf) c.args.grid.now (λ bytes. IsRefusedGrid n bytes c.in_err-grid.field-0.0))
-        c.dimension.ensures (c.in_err-grid.ensures.refused decided))) in
+    c.dimension.ensures (c.in_err-grid.ensures.refused decided))) in
     IfErr-more c.from_residual-in_err-grid.result (λ status. status ≡ c.in_err-grid.field-0.0) _ c.from_residual-in_err-grid.ensures.1
     (λ status is. subst (λ (s : Status). IsDecided s → IsRefusedMesh (g.S.Shelf.files c.args.shelf.now) c.args.table.now c.args.grid.now s) (sym is) refused)
 
@@ -39,7 +38,7 @@ returns-clause-held g c = record {
   table = c.in_ok-table.ensures.held;
   grid =
       file_stays (g.S.Shelf.files c.read_checked.new.shelf) (g.S.Shelf.files c.args.shelf.now) c.args.grid.now
-          (λ bytes. SpellsGrid bytes c.in_ok-grid.grid) c.in_ok-table.ensures.shelf.stay c.in_ok-grid.ensures.held;
+      (λ bytes. SpellsGrid bytes c.in_ok-grid.grid) c.in_ok-table.ensures.shelf.stay c.in_ok-grid.ensures.held;
   regular = c.in_ok-grid.ensures.regular;
   fits = sym c.dimension.ensures ∙ c.in_ok-grid.ensures.fits;
 }

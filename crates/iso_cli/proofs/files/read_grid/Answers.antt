@@ -15,20 +15,20 @@ use Rattle.iso_cli.proofs.files.read_grid.Goals as goal
 pub returns-in_err-header-clause-refused : goal.returns-in_err-header-clause-refused
 returns-in_err-header-clause-refused g c =
     let refused : IsDecided (grid_status c.in_err-header.field-0.0)
-        → FileHas (g.S.Shelf.files c.args.shelf.now) c.args.name.now
-              (λ bytes. IsRefusedGrid c.args.dimension bytes (grid_status c.in_err-header.field-0.0)) =
+    → FileHas (g.S.Shelf.files c.args.shelf.now) c.args.name.now
+    (λ bytes. IsRefusedGrid c.args.dimension bytes (grid_status c.in_err-header.field-0.0)) =
     λ decided.
-        file_has (g.S.Shelf.files c.args.shelf.now) c.args.name.now (g.S.Shelf.rest c.begin.new.self)
-            (λ bytes. IsRefusedGrid c.args.dimension bytes (grid_status c.in_err-header.field-0.0)) c.in_ok-begin.ensures.begun
+    file_has (g.S.Shelf.files c.args.shelf.now) c.args.name.now (g.S.Shelf.rest c.begin.new.self)
+    (λ bytes. IsRefusedGrid c.args.dimension bytes (grid_status c.in_err-header.field-0.0)) c.in_ok-begin.ensures.begun
     (λ bytes there rest. header_refused c.args.dimension bytes c.in_err-header.field-0.0
     (known (g.S.Shelf.rest c.begin.new.self) bytes (λ bs. IfSome (cause_of c.in_err-header.field-0.0) (HasHeaderFault bs)) rest
-        c.in_err-header.ensures.cause) decided) in
+    c.in_err-header.ensures.cause) decided) in
     IfErr-more c.from_residual-in_err-header.result (λ status. status ≡ grid_status c.in_err-header.field-0.0) _ c.from_residual-in_err-header.ensures.1
     (λ status is.
-         subst
-             (λ (s : Status).
-                  IsDecided s → FileHas (g.S.Shelf.files c.args.shelf.now) c.args.name.now (λ bytes. IsRefusedGrid c.args.dimension bytes s))
-             (sym is) refused)
+    subst
+    (λ (s : Status).
+    IsDecided s → FileHas (g.S.Shelf.files c.args.shelf.now) c.args.name.now (λ bytes. IsRefusedGrid c.args.dimension bytes s))
+    (sym is) refused)
 
 pub returns-then-header-dimension-clause-refused : goal.returns-then-header-dimension-clause-refused
 returns-then-header-dimension-clause-refused g c = λ decided.
@@ -36,11 +36,11 @@ returns-then-header-dimension-clause-refused g c = λ decided.
     ap (λ (h : Header). length h.sizes) (sym c.header.view_is) ∙ axes-stated c.header.inside.dims c.header.inside.sizes c.header.invariant in
     let differ : c.header.inside.dims ≢ c.args.dimension = c.if-header-dimension.true in
     file_has (g.S.Shelf.files c.args.shelf.now) c.args.name.now (g.S.Shelf.rest c.begin.new.self)
-        (λ bytes. IsRefusedGrid c.args.dimension bytes (Unfit c.args.dimension c.header.inside.dims)) c.in_ok-begin.ensures.begun
+    (λ bytes. IsRefusedGrid c.args.dimension bytes (Unfit c.args.dimension c.header.inside.dims)) c.in_ok-begin.ensures.begun
     (λ bytes there rest.
     let behind =
-        behind_header bytes (g.S.Shelf.rest c.begin.new.self) (g.S.Shelf.rest c.read_header.new.shelf) c.in_ok-header.header rest
-            c.in_ok-header.ensures.read in
+    behind_header bytes (g.S.Shelf.rest c.begin.new.self) (g.S.Shelf.rest c.read_header.new.shelf) c.in_ok-header.header rest
+    c.in_ok-header.ensures.read in
     unfit_refused c.args.dimension c.header.inside.dims bytes behind.0 c.in_ok-header.header behind.1 same differ)
 
 pub returns-in_err-read_samples-clause-refused : goal.returns-in_err-read_samples-clause-refused
@@ -49,34 +49,34 @@ returns-in_err-read_samples-clause-refused g c =
     ap (λ (h : Header). length h.sizes) (sym c.header.view_is) ∙ axes-stated c.header.inside.dims c.header.inside.sizes c.header.invariant in
     let fits : c.args.dimension ≡ length c.in_ok-header.header.sizes = sym (same ∙ c.if-header-dimension.false) in
     let refused : IsDecided (grid_status c.in_err-read_samples.field-0.0)
-        → FileHas (g.S.Shelf.files c.args.shelf.now) c.args.name.now
-              (λ bytes. IsRefusedGrid c.args.dimension bytes (grid_status c.in_err-read_samples.field-0.0)) =
+    → FileHas (g.S.Shelf.files c.args.shelf.now) c.args.name.now
+    (λ bytes. IsRefusedGrid c.args.dimension bytes (grid_status c.in_err-read_samples.field-0.0)) =
     λ decided.
-        file_has (g.S.Shelf.files c.args.shelf.now) c.args.name.now (g.S.Shelf.rest c.begin.new.self)
-            (λ bytes. IsRefusedGrid c.args.dimension bytes (grid_status c.in_err-read_samples.field-0.0)) c.in_ok-begin.ensures.begun
+    file_has (g.S.Shelf.files c.args.shelf.now) c.args.name.now (g.S.Shelf.rest c.begin.new.self)
+    (λ bytes. IsRefusedGrid c.args.dimension bytes (grid_status c.in_err-read_samples.field-0.0)) c.in_ok-begin.ensures.begun
     (λ bytes there rest.
     let behind =
-        behind_header bytes (g.S.Shelf.rest c.begin.new.self) (g.S.Shelf.rest c.read_header.new.shelf) c.in_ok-header.header rest
-            c.in_ok-header.ensures.read in
+    behind_header bytes (g.S.Shelf.rest c.begin.new.self) (g.S.Shelf.rest c.read_header.new.shelf) c.in_ok-header.header rest
+    c.in_ok-header.ensures.read in
     samples_refused c.args.dimension bytes behind.0 c.in_ok-header.header c.in_err-read_samples.field-0.0 behind.1 fits
     (known (g.S.Shelf.rest c.read_header.new.shelf) behind.0
-        (λ bs. IfSome (cause_of c.in_err-read_samples.field-0.0) (HasSampleFault c.in_ok-header.header bs)) behind.2
-            c.in_err-read_samples.ensures.cause) decided) in
+    (λ bs. IfSome (cause_of c.in_err-read_samples.field-0.0) (HasSampleFault c.in_ok-header.header bs)) behind.2
+    c.in_err-read_samples.ensures.cause) decided) in
     IfErr-more c.from_residual-in_err-read_samples.result (λ status. status ≡ grid_status c.in_err-read_samples.field-0.0) _
-        c.from_residual-in_err-read_samples.ensures.1
+    c.from_residual-in_err-read_samples.ensures.1
     (λ status is.
-         subst
-             (λ (s : Status).
-                  IsDecided s → FileHas (g.S.Shelf.files c.args.shelf.now) c.args.name.now (λ bytes. IsRefusedGrid c.args.dimension bytes s))
-             (sym is) refused)
+    subst
+    (λ (s : Status).
+    IsDecided s → FileHas (g.S.Shelf.files c.args.shelf.now) c.args.name.now (λ bytes. IsRefusedGrid c.args.dimension bytes s))
+    (sym is) refused)
 
 pub returns-clause-held : goal.returns-clause-held
 returns-clause-held g c =
     file_has (g.S.Shelf.files c.args.shelf.now) c.args.name.now (g.S.Shelf.rest c.begin.new.self)
-        (λ bytes. SpellsGrid bytes c.in_ok-read_samples.field-0) c.in_ok-begin.ensures.begun
+    (λ bytes. SpellsGrid bytes c.in_ok-read_samples.field-0) c.in_ok-begin.ensures.begun
     (λ bytes there rest.
     let behind = behind_header bytes (g.S.Shelf.rest c.begin.new.self) (g.S.Shelf.rest c.read_header.new.shelf) c.in_ok-header.header rest
-        c.in_ok-header.ensures.read in (
+    c.in_ok-header.ensures.read in (
       c.in_ok-header.header,
       behind.0,
       behind.1,

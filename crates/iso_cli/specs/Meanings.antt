@@ -1,0 +1,59 @@
+-- What each command means: a new command adds its lines at the end, and changes none.
+use Rattle.std.specs.Prelude.{◌≡◌, ℕ, List, [], ◌∷◌, Option, None, ⊤}
+use Rattle.iso_base.specs.Files.{Files, bytes_of}
+use Rattle.iso_formats.specs.Commands.{Command, generate_command, check_command, extract_command, demo_command}
+use Rattle.iso_model.specs.Tables.{Table}
+use Rattle.iso_model.specs.Values.{Grid}
+use Rattle.iso_cli.specs.declared.status.Status.{Status}
+use Rattle.iso_cli.specs.Outputs.{IsAcceptance, IsGenerated, IsMeshText}
+use Rattle.iso_cli.specs.Refusals.{HoldBoth, HoldsAccepted, IsRefusedFile, IsRefusedMesh, IsRefusedTable, LacksMeshFile}
+
+-- what a command reads, needs, refuses and puts: the names of its files; that the files hold what it needs; that they are refused with a status;
+-- that one that it names is not there, and none is refused that is read before it; and that a text is its whole output
+pub record Meaning : Type 1 where
+  pub reads : List (List ℕ)
+  pub needs : Option Files → Type 0
+  pub refuses : Option Files → Status → Type 0
+  pub lacks : Option Files → Type 0
+  pub puts : Option Files → List ℕ → Type 0
+
+-- a command without files is not refused by any
+abbrev pub without_files : (List ℕ → Type 0) → Meaning
+without_files IsText = record {
+  reads = [];
+  needs = λ files. ⊤;
+  refuses = λ files status. ⊥;
+  lacks = λ files. ⊥;
+  puts = λ files text. IsText text;
+}
+
+-- a command that is not built is never done
+abbrev pub unbuilt : Meaning
+unbuilt = record {
+  reads = [];
+  needs = λ files. ⊥;
+  refuses = λ files status. ⊥;
+  lacks = λ files. ⊥;
+  puts = λ files text. ⊥;
+}
+
+abbrev pub meaning : Command → Meaning
+-- the table of the construction
+meaning (generate_command kind d) = without_files (IsGenerated kind d)
+-- the line for an accepted table
+meaning (check_command table) = record {
+  reads = table ∷ [];
+  needs = λ files. (t : Table) × HoldsAccepted files table t;
+  refuses = λ files status. IsRefusedFile files table IsRefusedTable status;
+  lacks = λ files. bytes_of files table ≡ None;
+  puts = λ files text. IsAcceptance files table text;
+}
+-- the mesh by an accepted table in a grid of its dimension
+meaning (extract_command table grid iso) = record {
+  reads = table ∷ grid ∷ [];
+  needs = λ files. (t : Table) × (g : Grid) × HoldBoth files table grid t g;
+  refuses = λ files status. IsRefusedMesh files table grid status;
+  lacks = λ files. LacksMeshFile files table grid;
+  puts = λ files text. IsMeshText files table grid iso text;
+}
+meaning (demo_command kind d size seed) = unbuilt
