@@ -25,7 +25,7 @@ unfolding HasNoBipolar
 none_at_zero kind d has e below =
     agree (edge_count kind d) (is_bipolar_in kind d 0) (λ _. false)
     (of_each_cell (λ q n. map (is_bipolar_in q n 0) (numbers (edge_count q n)) ≡ map (λ _. false) (numbers (edge_count q n))) refl refl refl refl refl
-         refl refl kind d (dimension_cases kind d has) has)
+    refl refl kind d (dimension_cases kind d has) has)
     e below
 
 none_at_last : (kind : Kind) (d : ℕ) → HasDimension kind d → HasNoBipolar kind d (label_count kind d - 1)
@@ -33,7 +33,7 @@ unfolding HasNoBipolar
 none_at_last kind d has e below =
     agree (edge_count kind d) (is_bipolar_in kind d (label_count kind d - 1)) (λ _. false)
     (of_each_cell (λ q n. map (is_bipolar_in q n (label_count q n - 1)) (numbers (edge_count q n)) ≡ map (λ _. false) (numbers (edge_count q n))) refl
-         refl refl refl refl refl refl kind d (dimension_cases kind d has) has)
+    refl refl refl refl refl refl kind d (dimension_cases kind d has) has)
     e below
 
 -- a tuple with an edge that is not bipolar is not sound
@@ -50,15 +50,15 @@ no_sound_entry : (kind : Kind) (d label : ℕ) (ws : List (List ℕ)) → HasNoB
 no_sound_entry kind d label [] none all some sound = refl
 no_sound_entry kind d label (w ∷ ws) none all some sound =
     absurd
-        (no_sound_tuple kind d label w none (All-head (IsTuple kind d) w ws all) some
-             (and_parts (is_sound_tuple kind d label w) (list_all (is_sound_tuple kind d label) ws) sound).0)
+    (no_sound_tuple kind d label w none (All-head (IsTuple kind d) w ws all) some
+    (and_parts (is_sound_tuple kind d label w) (list_all (is_sound_tuple kind d label) ws) sound).0)
 
 empty_entry : (kind : Kind) (d label : ℕ) (ws : List (List ℕ)) → HasNoBipolar kind d label → All (IsTuple kind d) ws → 0 < d
     → rule_edges kind d label ws ≡ true → ws ≡ []
 empty_entry kind d label ws none all some keeps =
     no_sound_entry kind d label ws none all some
     (and_parts (list_all (is_sound_tuple kind d label) ws)
-         (list_all (λ e. not (is_bipolar_in kind d label e) || list_any (λ w. has w e) ws) (numbers (edge_count kind d))) keeps).0
+    (list_all (λ e. not (is_bipolar_in kind d label e) || list_any (λ w. has w e) ws) (numbers (edge_count kind d))) keeps).0
 
 some_axes : (kind : Kind) (d : ℕ) → HasDimension kind d → 0 < d
 some_axes kind d has = omega (arith, dimension_cases kind d has)
@@ -68,7 +68,7 @@ empty_at : (t : Table) → IsTable t → IsAccepted t → (label : ℕ) → labe
 empty_at t is accepted label below none =
     let inside : label < length t.entries = omega (arith, below, is.whole) in
     empty_entry t.kind t.dimension label (entry_of t label) none (is.sound label [] inside).1 (some_axes t.kind t.dimension is.fits)
-        (accepted label 1 below (omega arith))
+    (accepted label 1 below (omega arith))
 
 pub empty_ends : (t : Table) → IsTable t → IsAccepted t → HasEmptyEnds t
 empty_ends t is accepted =

@@ -14,6 +14,10 @@ IsVerdictOn t (Refused label rule) = IsRefusedAt t label rule
 abbrev pub KeepsAll : Table → ℕ → Type 0
 KeepsAll t label = (q : ℕ) → q ≤ 6 → Keeps t label q
 
+-- the label keeps the rules below a number
+abbrev pub KeepsBelow : Table → ℕ → ℕ → Type 0
+KeepsBelow t label n = (q : ℕ) → q < n → Keeps t label q
+
 -- the label fails this rule, and keeps those before it
 pub record FailsFirst (t : Table) (label r : ℕ) : Type 0 where
   pub fails : ¬ Keeps t label r

@@ -1,17 +1,18 @@
 //! The check of all labels of a table.
 
-ghost use Rattle.std.specs.Prelude.{◌≡◌, ◌<◌, length, MatchOption, IfOk};
+ghost use Rattle.std.specs.Prelude.{◌≡◌, ◌<◌, ◌≤◌, length, MatchOption, IfOk};
 ghost use Rattle.iso_model.specs.Tables.{entry_of};
+ghost use Rattle.iso_model.specs.Acceptance.{rule};
 ghost use Rattle.face_tallies.specs.Tallies.{AreTallies};
 ghost use Rattle.seam_traces.specs.Kept.{TellTable};
-ghost use Rattle.table_check.specs.Verdicts.{IsVerdictOn, KeepsAll, FailsFirst};
+ghost use Rattle.table_check.specs.Verdicts.{IsVerdictOn, KeepsAll, KeepsBelow, FailsFirst};
 
 use crate::Verdict;
 use cell_lattice::Cell;
 use face_tallies::{FaceTally, TallyRoom, keeps_faces, tally};
-use path_rule::keeps_path;
 use iso_base::Memory;
 use label_rules::Figures;
+use path_rule::keeps_path;
 use seam_traces::Traces;
 use std::alloc::Global;
 use table_file::Table;
@@ -35,8 +36,7 @@ pub fn check<C: Cell<D>, const D: usize>(alloc: Global, table: &Table<D>) -> Res
     Ok(Verdict::Accepted)
 }
 
-/// The least rule that a label fails, by the tallies of its tuples. The rules are asked in ascending order, and each
-/// one's call may count on those before it.
+/// The least rule that a label fails, by the tallies of its tuples.
 fn first_failed<C: Cell<D>, const D: usize>(
     figures: &Figures<D>,
     traces: &Traces<C, D>,
@@ -51,25 +51,41 @@ fn first_failed<C: Cell<D>, const D: usize>(
     requires traces { TellTable C.KIND D table.now traces.now }
     ensures { MatchOption result (KeepsAll table.now label) (FailsFirst table.now label) }
 {
-    let _labels = table.labels();
-    let tuples = table.tuples(label);
-    if !figures.keeps_edges(label, tuples) {
-        return Some(1);
-    }
-    if !figures.keeps_off_facets(tuples) {
-        return Some(2);
-    }
-    if !keeps_faces(figures.facets(), tallies) {
-        return Some(3);
-    }
-    if !figures.keeps_side(label, tuples) {
-        return Some(4);
-    }
-    if !keeps_path(figures.facets(), figures.bipolar(label), tuples) {
-        return Some(5);
-    }
-    if !traces.keeps_seams(label, tallies) {
-        return Some(6);
+    for number in 1..=6 {
+        if !keeps_rule(figures, traces, table, label, tallies, number) {
+            return Some(number);
+        }
     }
     None
+}
+
+/// Whether a label keeps a rule, where it keeps those before it.
+fn keeps_rule<C: Cell<D>, const D: usize>(
+    figures: &Figures<D>,
+    traces: &Traces<C, D>,
+    table: &Table<D>,
+    label: u32,
+    tallies: &[FaceTally],
+    number: u8,
+) -> bool
+    requires cell { figures.now ≡ C.KIND }
+    requires kind { table.now.kind ≡ C.KIND }
+    requires label { label < length table.now.entries }
+    requires tallies { AreTallies D (entry_of table.now label) tallies.now }
+    requires traces { TellTable C.KIND D table.now traces.now }
+    requires first { 1 ≤ number }
+    requires last { number ≤ 6 }
+    requires before { KeepsBelow table.now label number }
+    ensures { result ≡ rule table.now label number }
+{
+    let _labels = table.labels();
+    let tuples = table.tuples(label);
+    match number {
+        1 => figures.keeps_edges(label, tuples),
+        2 => figures.keeps_off_facets(tuples),
+        3 => keeps_faces(figures.facets(), tallies),
+        4 => figures.keeps_side(label, tuples),
+        5 => keeps_path(figures.facets(), figures.bipolar(label), tuples),
+        _ => traces.keeps_seams(label, tallies),
+    }
 }
