@@ -3,8 +3,8 @@ use Rattle.std.specs.Prelude.{◌≡◌, ℕ, zero, suc, ◌+◌, ◌<◌, ◌�
 use Rattle.std.specs.Prelude.{filter, length, count_by, slice_index_or, All}
 use Rattle.std.specs.List.{list_all, range_with_len}
 use Rattle.std.specs.Int.{bit_at}
-use Rattle.std.proofs.Common.{get_or, refl, sym, ap, ◌∙◌, subst, arith, inl, inr}
-use Rattle.std.proofs.lemmas.Bool.{and_parts, and_from, eq-eqb, eqb-true, both_ways, false_from_ne_true}
+use Rattle.std.proofs.Common.{get_or, refl, sym, ap, ◌∙◌, subst, arith}
+use Rattle.std.proofs.lemmas.Bool.{and_from, eq-eqb, eqb-true, both_ways, false_from_ne_true}
 use Rattle.std.proofs.lemmas.Nat.Bits.{bit_at_and, bit_at-lt, same_from_bits}
 use Rattle.iso_model.specs.declared.Kind.{Kind}
 use Rattle.lists.specs.Orders.{numbers, has, is_distinct, without}
@@ -51,9 +51,9 @@ no_bit n e h = by_value (bit_at n e) (bit_at-lt n e) h
 lies_within : (face : List ℕ) (facet : ℕ) → Ascends face → list_all (is_set facet) face ≡ (bit_and (set_number face) facet == set_number face)
 lies_within face facet a = same_tests (list_all (is_set facet) face) (bit_and (set_number face) facet == set_number face)
     (λ h.
-         eq-eqb (bit_and (set_number face) facet) (set_number face)
-             (same_from_bits (bit_and (set_number face) facet) (set_number face)
-                  (λ i. bit_at_and (set_number face) facet i ∙ by_member h i (has face i) refl)))
+    eq-eqb (bit_and (set_number face) facet) (set_number face)
+    (same_from_bits (bit_and (set_number face) facet) (set_number face)
+    (λ i. bit_at_and (set_number face) facet i ∙ by_member h i (has face i) refl)))
     (λ h. all_from (is_set facet) face (λ e i. member (eqb-true (bit_and (set_number face) facet) (set_number face) h) e (has_of_In face e i)))
   where
     by_member : list_all (is_set facet) face ≡ true → (i : ℕ) (b : Bool) → has face i ≡ b
@@ -70,7 +70,7 @@ lies_within face facet a = same_tests (list_all (is_set facet) face) (bit_and (s
     member s e t =
         let first : bit_at (set_number face) e ≡ 1 = set_bit (set_number face) e (face_bits face a e ∙ t) in
         let both : min (bit_at (set_number face) e) (bit_at facet e) ≡ bit_at (set_number face) e =
-            sym (bit_at_and (set_number face) facet e) ∙ ap (λ n. bit_at n e) s in
+        sym (bit_at_and (set_number face) facet e) ∙ ap (λ n. bit_at n e) s in
         let small = bit_at-lt facet e in
         let other : bit_at facet e ≡ 1 = omega (arith, first, both, small) in
         eq-eqb (bit_at facet e) 1 other
@@ -81,13 +81,13 @@ count_places p q a [] h = refl
 count_places p q a (x ∷ xs) h =
     let first : p a ≡ q x = subst (λ m. p m ≡ q x) (let e : a + 0 ≡ a = omega arith in e) (h 0 (omega arith)) in
     let others =
-        count_places p q (a + 1) xs
-            (λ k less. let e : a + suc k ≡ a + 1 + k = omega arith in subst (λ m. p m ≡ q (get_or xs k 0)) e (h (suc k) (omega arith))) in
+    count_places p q (a + 1) xs
+    (λ k less. let e : a + suc k ≡ a + 1 + k = omega arith in subst (λ m. p m ≡ q (get_or xs k 0)) e (h (suc k) (omega arith))) in
     omega (arith, kept (p a), ap bit first, others, count_by-cons q x xs)
   where
     kept : (b : Bool)
         → length (cond b (a ∷ filter p (range_with_len (a + 1) (length xs))) (filter p (range_with_len (a + 1) (length xs))))
-              ≡ bit b + length (filter p (range_with_len (a + 1) (length xs)))
+        ≡ bit b + length (filter p (range_with_len (a + 1) (length xs)))
     kept true = omega arith
     kept false = omega arith
 
@@ -141,7 +141,7 @@ pub tally_right : (kind : Kind) (d : ℕ) (facets : List ℕ) (ws : List (List �
 tally_right kind d facets ws s t h =
     let some = had ws h.face h.some in
     let edges : (e : ℕ) → In e h.face → e < edge_count kind d =
-        λ e i. edge_of kind d some.tuple (tuple_of kind d facets ws s some.tuple some.member) e (edges_within h.face some.tuple some.has e i) in
+    λ e i. edge_of kind d some.tuple (tuple_of kind d facets ws s some.tuple some.member) e (edges_within h.face some.tuple some.has e i) in
     let count : length (facets_with kind d h.face) ≡ count_by (λ facet. bit_and (set_number h.face) facet == set_number h.face) facets =
     facets_count kind d facets ws s h.face (ascends_of h.face h.is_face.ascending) edges in
     ap (λ n. is_right_by (count_by (λ facet. bit_and n facet == n) facets) t) h.set ∙ ap (λ n. is_right_by n t) (sym count)
@@ -154,11 +154,11 @@ rule_each : (kind : Kind) (d : ℕ) (ws : List (List ℕ)) → rule_faces kind d
 rule_each kind d ws h w j e i l =
     all_In (λ k. is_face_right ws (face_without w k) (length (facets_with kind d (face_without w k)))) (numbers (length w))
     (second (is_distinct w) _ e
-         (all_In
-              (λ v.
-                   not (is_distinct v)
-                       || list_all (λ k. is_face_right ws (face_without v k) (length (facets_with kind d (face_without v k)))) (numbers (length v)))
-              ws h w j))
+    (all_In
+    (λ v.
+    not (is_distinct v)
+    || list_all (λ k. is_face_right ws (face_without v k) (length (facets_with kind d (face_without v k)))) (numbers (length v)))
+    ws h w j))
     i (In-numbers (length w) i l)
   where
     second : (a b : Bool) → a ≡ true → (not a || b) ≡ true → b ≡ true
@@ -167,20 +167,20 @@ rule_each kind d ws h w j e i l =
 
 rule_from : (kind : Kind) (d : ℕ) (ws : List (List ℕ))
     →
-        ((w : List ℕ) → In w ws → is_distinct w ≡ true → (i : ℕ) → i < length w
-             → is_face_right ws (face_without w i) (length (facets_with kind d (face_without w i))) ≡ true)
+    ((w : List ℕ) → In w ws → is_distinct w ≡ true → (i : ℕ) → i < length w
+    → is_face_right ws (face_without w i) (length (facets_with kind d (face_without w i))) ≡ true)
     → rule_faces kind d ws ≡ true
 rule_from kind d ws h =
     all_from
-        (λ v.
-             not (is_distinct v)
-                 || list_all (λ k. is_face_right ws (face_without v k) (length (facets_with kind d (face_without v k)))) (numbers (length v)))
-        ws
+    (λ v.
+    not (is_distinct v)
+    || list_all (λ k. is_face_right ws (face_without v k) (length (facets_with kind d (face_without v k)))) (numbers (length v)))
+    ws
     (λ w j.
-         either (is_distinct w) _
-             (λ e.
-                  all_from (λ k. is_face_right ws (face_without w k) (length (facets_with kind d (face_without w k)))) (numbers (length w))
-                      (λ i m. h w j e i (from_In-numbers (length w) i m))))
+    either (is_distinct w) _
+    (λ e.
+    all_from (λ k. is_face_right ws (face_without w k) (length (facets_with kind d (face_without w k)))) (numbers (length w))
+    (λ i m. h w j e i (from_In-numbers (length w) i m))))
   where
     either : (a b : Bool) → (a ≡ true → b ≡ true) → (not a || b) ≡ true
     either true b f = f refl
@@ -190,7 +190,7 @@ rule_from kind d ws h =
 counts : (ws : List (List ℕ)) (w : List ℕ) → In w ws → is_distinct w ≡ true → (i : ℕ) → i < length w → 0 < face_count ws (face_without w i)
 counts ws w j e i l =
     let some : 1 ≤ count_by (has_face (face_without w i)) ws =
-        count_some (has_face (face_without w i)) ws w j (and_from (is_distinct w) _ e (any_place (face_without w i) w i l refl)) in
+    count_some (has_face (face_without w i)) ws w j (and_from (is_distinct w) _ e (any_place (face_without w i) w i l refl)) in
     omega (arith, some)
 
 -- where all tallies are right, so is each face
@@ -204,7 +204,7 @@ rule_kept kind d facets ws tallies small s a all = rule_from kind d ws (λ w j e
     right w j e i l =
         let face = face_without w i in
         let f : IsFace d face =
-            face_of d w i (tuple_of kind d facets ws s w j).0 (each-from_All (λ v. All (λ x. x < 32) v) ws small w (Contains_from ws w j)) e l in
+        face_of d w i (tuple_of kind d facets ws s w j).0 (each-from_All (λ v. All (λ x. x < 32) v) ws small w (Contains_from ws w j)) e l in
         let r = tally_of_face d ws tallies a face f (counts ws w j e i l) in
         let h = each-from_All (IsTallyOf d ws) tallies a.each r.0 r.1 in
         let same : h.face ≡ face = same_from_number h.face face (ascends_of h.face h.is_face.ascending) (ascends_of face f.ascending) (sym h.set ∙ r.2) in

@@ -30,16 +30,15 @@ module _ {X : Type 0} (g : X → ℤ) where
 
   pub total-append : (xs ys : List X) → total (map g (xs ++ ys)) ≡ total (map g xs) +ℤ total (map g ys)
   total-append xs ys =
-      omega
-          (
-            arith,
-            ints,
-            as_difference (xs ++ ys),
-            as_difference xs,
-            as_difference ys,
-            sum_by-append (λ y. up (g y)) xs ys,
-            sum_by-append (λ y. down (g y)) xs ys
-          )
+      omega (
+        arith,
+        ints,
+        as_difference (xs ++ ys),
+        as_difference xs,
+        as_difference ys,
+        sum_by-append (λ y. up (g y)) xs ys,
+        sum_by-append (λ y. down (g y)) xs ys,
+      )
 
   pub total-set : (xs : List X) (i : ℕ) (y d : X) → i < length xs → total (map g (slice_set xs i y)) +ℤ g (slice_index_or xs i d) ≡ total (map g xs) +ℤ g y
   total-set xs i y d h =
@@ -116,16 +115,15 @@ put_adds place part parts all one = by_test (nat_lt place (length parts) && ((sl
           count = λ set. omega (arith, sum_by-set (count_of set) parts place (joined t part) part h.inside, joined_count set t part h.same, one_count set part);
           sum =
               λ set.
-                  added (sum_at set (put_by true place part parts)) (sum_of set t) (sum_at set parts) (sum_of set part) (sum_of set (joined t part))
-                      (sum_at set (part ∷ []))
+              added (sum_at set (put_by true place part parts)) (sum_of set t) (sum_at set parts) (sum_of set part) (sum_of set (joined t part))
+              (sum_at set (part ∷ []))
               (total-set (sum_of set) parts place (joined t part) part h.inside) (joined_sum set t part h.same) (one_sum set part);
           whole =
-              omega
-                  (
-                    arith,
-                    sum_by-set (λ (s : FaceTally). s.count) parts place (joined t part) part h.inside,
-                    sum_by-cons (λ (s : FaceTally). s.count) part []
-                  );
+              omega (
+                arith,
+                sum_by-set (λ (s : FaceTally). s.count) parts place (joined t part) part h.inside,
+                sum_by-cons (λ (s : FaceTally). s.count) part [],
+              );
           weighed = All-set IsWeighed parts place (joined t part) (joined_weighed t part (all place part h.inside) one) all;
         }
       where
@@ -163,8 +161,8 @@ adds_more more again old mid new a b = record {
   count = λ set. omega (arith, a.count set, b.count set, sum_by-append (count_of set) more again);
   sum =
       λ set.
-          added (sum_at set old) (sum_at set more) (sum_at set again) (sum_at set mid) (sum_at set new) (sum_at set (more ++ again)) (a.sum set)
-              (b.sum set) (total-append (sum_of set) more again);
+      added (sum_at set old) (sum_at set more) (sum_at set again) (sum_at set mid) (sum_at set new) (sum_at set (more ++ again)) (a.sum set)
+      (b.sum set) (total-append (sum_of set) more again);
   whole = omega (arith, a.whole, b.whole, sum_by-append (λ (s : FaceTally). s.count) more again);
   weighed = b.weighed;
 }
@@ -218,7 +216,7 @@ pub wide_more : (d : ℕ) (ws : List (List ℕ)) (i : ℕ) (w : List ℕ) → i 
     → All (λ v. length v ≡ d) (take i ws) → All (λ v. length v ≡ d) (take (i + 1) ws)
 wide_more d ws i w inside read wide all =
     subst (λ vs. All (λ v. length v ≡ d) vs) (sym (take_more ws i w inside ∙ ap (λ v. take i ws ++ v ∷ []) (sym read)))
-        (All-push (λ v. length v ≡ d) (take i ws) w all wide)
+    (All-push (λ v. length v ≡ d) (take i ws) w all wide)
 
 pub few_faces : (d i n : ℕ) → d ≤ 4 → i < n → n ≤ 2 ^ 28 → d * i + d ≤ 2 ^ 62
 few_faces d i n h k l = let m = mul-le-mul_right (i + 1) h in omega (arith, m, k, l)
@@ -251,14 +249,14 @@ put_ascends part parts up_to all =
         → (slice_index_or (put_by true (length parts - 1) part parts) k d).edges ≡ (slice_index_or parts k d).edges
     same_sets h k d = elim (cases_eq k (length parts - 1)) as
         (λ _. (slice_index_or (put_by true (length parts - 1) part parts) k d).edges ≡ (slice_index_or parts k d).edges) [
-      | inl s ↦
-          let new = joined (slice_index_or parts (length parts - 1) part) part in
-          ap (λ (j : ℕ). (slice_index_or (slice_set parts (length parts - 1) new) j d).edges) s
-          ∙ ap (λ (t : FaceTally). t.edges) (get_or-set_same parts (length parts - 1) new d h.inside)
-          ∙ ap (λ (t : FaceTally). t.edges) (any_default parts (length parts - 1) part d h.inside)
-          ∙ ap (λ (j : ℕ). (slice_index_or parts j d).edges) (sym s)
-      | inr n ↦ ap (λ (t : FaceTally). t.edges) (get_or-set_other parts (length parts - 1) k (joined (slice_index_or parts (length parts - 1) part) part) d n)
-    ]
+          | inl s ↦
+              let new = joined (slice_index_or parts (length parts - 1) part) part in
+              ap (λ (j : ℕ). (slice_index_or (slice_set parts (length parts - 1) new) j d).edges) s
+              ∙ ap (λ (t : FaceTally). t.edges) (get_or-set_same parts (length parts - 1) new d h.inside)
+              ∙ ap (λ (t : FaceTally). t.edges) (any_default parts (length parts - 1) part d h.inside)
+              ∙ ap (λ (j : ℕ). (slice_index_or parts j d).edges) (sym s)
+          | inr n ↦ ap (λ (t : FaceTally). t.edges) (get_or-set_other parts (length parts - 1) k (joined (slice_index_or parts (length parts - 1) part) part) d n)
+        ]
 
     joins : IsThere (length parts - 1) part parts → AscendsBySets (put_by true (length parts - 1) part parts)
     joins h = λ k d less.
@@ -279,7 +277,7 @@ put_ascends part parts up_to all =
             let equal : ((slice_index_or parts (length parts - 1) part).edges == part.edges) ≡ true =
             eq-eqb (slice_index_or parts (length parts - 1) part).edges part.edges (ap (λ (j : ℕ). (slice_index_or parts j part).edges) (sym there) ∙ same) in
             both_ways (nat_lt (length parts - 1) (length parts) && ((slice_index_or parts (length parts - 1) part).edges == part.edges)) e
-                (and_from _ _ inside equal)
+            (and_from _ _ inside equal)
 
         by_place : (k : ℕ) (d : FaceTally) → k + 1 < length parts + 1 → (k + 1 < length parts) ⊎ (length parts ≤ k + 1)
             → (slice_index_or (parts ++ part ∷ []) k d).edges < (slice_index_or (parts ++ part ∷ []) (k + 1) d).edges
@@ -322,4 +320,4 @@ pub ascends_more : (parts : List FaceTally) (i : ℕ) (part : FaceTally) (tallie
     → AscendsBySets (put_at (length tallies - 1) part tallies)
 ascends_more parts i part tallies inside read b up_to =
     put_ascends part tallies up_to
-        (subst (λ (t : FaceTally). All (λ (s : FaceTally). s.edges ≤ t.edges) tallies) (sym read) (b.bounded i part (omega arith) inside))
+    (subst (λ (t : FaceTally). All (λ (s : FaceTally). s.edges ≤ t.edges) tallies) (sym read) (b.bounded i part (omega arith) inside))

@@ -1,10 +1,9 @@
 -- Faces and the numbers of their sets.
-use Rattle.std.specs.Prelude.{◌≡◌, ◌≢◌, ◌⊎◌, ℕ, zero, suc, ◌+◌, ◌-◌, ◌*◌, ◌^◌, ◌<◌, ◌≤◌, ◌%◌, Bool, true, false, ◌||◌, ◌==◌, nat_lt, List, [], ◌∷◌}
-use Rattle.std.specs.Prelude.{length, count_by, Contains, pos, negsuc}
+use Rattle.std.specs.Prelude.{◌≡◌, ◌≢◌, ◌⊎◌, ℕ, ◌+◌, ◌*◌, ◌^◌, ◌<◌, ◌≤◌, ◌%◌, Bool, true, false, ◌||◌, ◌==◌, nat_lt, List, [], ◌∷◌}
+use Rattle.std.specs.Prelude.{length, count_by, pos, negsuc}
 use Rattle.std.specs.Int.{bit_at}
 use Rattle.std.proofs.Common.{get_or, refl, sym, ap, ◌∙◌, arith, inl, inr}
 use Rattle.std.proofs.lemmas.Bool.{cases_eq, cases_lt, eq-eqb, ne_eqb, false_from_ne_true}
-use Rattle.std.proofs.lemmas.Nat.{pow-add}
 use Rattle.std.proofs.lemmas.Nat.Bits.{bit_at-zero, bit_at-lt, bit_at-pow_same, bit_at-pow_other, bit_at_cat_low, bit_at_cat_high, same_from_bits}
 use Rattle.std.proofs.lemmas.List.Sums.{sum_by-cons}
 use Rattle.std.proofs.Math.Pow.{pow-lt}
@@ -17,9 +16,8 @@ use Rattle.mesh_laws.proofs.FaceLists.{face_ascends}
 use Rattle.edge_sets.specs.Sets.{IsSetOf}
 use Rattle.lists.specs.Bits.{is_set, set_number}
 use Rattle.lists.specs.Members.{In, IsStrict, AscendsBy, Ascends}
-use Rattle.lists.proofs.MemberLaws.{In_from_place, Contains_from, In_of_has, has_of_In, has_contains, contains_has}
+use Rattle.lists.proofs.MemberLaws.{In_from_place, In_of_has, has_of_In}
 use Rattle.lists.proofs.DistinctLists.{from_distinct_test}
-use Rattle.lists.proofs.Orderings.{ascends_same}
 use Rattle.lists.proofs.Bits.{same_bit, multiple}
 use Rattle.lists.proofs.Counts.{not_there}
 
@@ -67,7 +65,7 @@ face_bits (x ∷ xs) a e =
 pub number_of_set : (set : ℕ) (xs : List ℕ) → Ascends xs → IsSetOf set xs → set ≡ set_number xs
 number_of_set set xs a s =
     same_from_bits set (set_number xs)
-        (λ i. same_bit (bit_at set i) (bit_at (set_number xs) i) (bit_at-lt set i) (bit_at-lt (set_number xs) i) (s i ∙ sym (face_bits xs a i)))
+    (λ i. same_bit (bit_at set i) (bit_at (set_number xs) i) (bit_at-lt set i) (bit_at-lt (set_number xs) i) (s i ∙ sym (face_bits xs a i)))
 
 -- ---- faces with one number are one face
 

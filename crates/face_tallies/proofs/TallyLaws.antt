@@ -1,12 +1,11 @@
 -- When parts are tallies, and what tallies determine.
-use Rattle.std.specs.Prelude.{◌≡◌, ◌≢◌, ◌⊎◌, ℕ, ◌<◌, ◌≤◌, ℤ, pos, ◌+ℤ◌, Bool, true, false, ◌==◌, List, [], ◌∷◌, map, length, slice_index_or, All}
+use Rattle.std.specs.Prelude.{◌≡◌, ◌≢◌, ℕ, ◌<◌, ℤ, pos, ◌+ℤ◌, Bool, true, false, ◌==◌, List, [], ◌∷◌, map, length, slice_index_or, All}
 use Rattle.std.specs.Prelude.{Contains, IsPermutation, if◌then◌else◌}
 use Rattle.std.proofs.Common.{refl, sym, ap, ◌∙◌, subst, arith, inl, inr}
 use Rattle.std.proofs.lemmas.Int.{ints}
-use Rattle.std.proofs.lemmas.Bool.{cases_lt, eq-eqb, ne_eqb}
+use Rattle.std.proofs.lemmas.Bool.{eq-eqb, ne_eqb}
 use Rattle.std.proofs.lemmas.List.Sums.{sum_by-cons}
-use Rattle.iso_model.specs.Faces.{has_face, sign_of_face, face_count, face_sum}
-use Rattle.mesh_laws.proofs.FaceOf.{sign_none}
+use Rattle.iso_model.specs.Faces.{face_count, face_sum}
 use Rattle.face_tallies.specs.declared.faces.FaceTally.{FaceTally}
 use Rattle.face_tallies.specs.Tallies.{IsFace, IsTallyOf, AreTallies}
 use Rattle.face_tallies.specs.Parts.{all_parts, count_at, sum_at, IsWeighed, AddsParts}
@@ -14,13 +13,11 @@ use Rattle.face_tallies.proofs.PartLaws.{count_of, sum_of, AscendsBySets, adds_p
 use Rattle.face_tallies.proofs.TupleFaces.{all_count, all_sum, counted_part, part_face}
 use Rattle.lists.specs.Bits.{set_number}
 use Rattle.lists.specs.Members.{In, IsStrict, AscendsBy}
-use Rattle.lists.proofs.Contained.{any_default, each-from_All}
+use Rattle.lists.proofs.Contained.{any_default}
 use Rattle.lists.proofs.MemberLaws.{In_from_place, Contains_from, In-map, from_In-map}
-use Rattle.lists.proofs.Sorting.{bit, count_by-cons}
 use Rattle.lists.proofs.Ascending.{ascends_of}
-use Rattle.lists.proofs.Orderings.{steps_ascend_by, ascends_same}
-use Rattle.lists.proofs.Bits.{same_from_number}
-use Rattle.mesh_laws.proofs.FaceLists.{no_faces, zero_sum}
+use Rattle.lists.proofs.Orderings.{steps_ascend_by}
+use Rattle.mesh_laws.proofs.FaceLists.{zero_sum}
 
 -- ---- tallies that ascend
 
@@ -40,7 +37,7 @@ none_sums : (set : ℕ) (tallies : List FaceTally) → ((t : FaceTally) → In t
 none_sums set [] h = refl
 none_sums set (t ∷ tallies) h =
     zero_sum (sum_of set t) (sum_at set tallies) (ap (λ (b : Bool). if b then t.sum else pos 0) (ne_eqb t.edges set (h t (inl refl))))
-        (none_sums set tallies (λ s i. h s (inr i)))
+    (none_sums set tallies (λ s i. h s (inr i)))
 
 -- the count and the sum at the set of one of them are its own
 pub record IsAlone (t : FaceTally) (tallies : List FaceTally) : Type 0 where
@@ -88,8 +85,8 @@ tallies_of_parts d ws tallies wide small count sum weighed up_to = record {
   ascending = up_to;
   each =
       λ k t h.
-          of_tally (slice_index_or tallies k t)
-              (In_from_place tallies (slice_index_or tallies k t) k h (any_default tallies k (slice_index_or tallies k t) t h)) (weighed k t h);
+      of_tally (slice_index_or tallies k t)
+      (In_from_place tallies (slice_index_or tallies k t) k h (any_default tallies k (slice_index_or tallies k t) t h)) (weighed k t h);
   whole = λ face f some.
       let r = counted_part (set_number face) tallies (omega (arith, some, count (set_number face), all_count face ws (ascends_of face f.ascending))) in
       Contains_from (map (λ (t : FaceTally). t.edges) tallies) (set_number face)
@@ -110,7 +107,7 @@ pub tallies_of_merge : (d : ℕ) (ws : List (List ℕ)) (gathered ordered tallie
 tallies_of_merge d ws gathered ordered tallies wide small a p b up_to =
     let c = adds_permutation (all_parts ws) [] gathered ordered a p in
     tallies_of_parts d ws tallies wide small (λ set. omega (arith, b.count set, c.count set))
-        (λ set. same (sum_at set tallies) (sum_at set ordered) (sum_at set (all_parts ws)) (b.sum set) (c.sum set)) b.weighed up_to
+    (λ set. same (sum_at set tallies) (sum_at set ordered) (sum_at set (all_parts ws)) (b.sum set) (c.sum set)) b.weighed up_to
   where
     same : (x y z : ℤ) → x ≡ pos 0 +ℤ y → y ≡ pos 0 +ℤ z → x ≡ z
     same x y z e f = omega (arith, ints)
@@ -123,6 +120,6 @@ pub tally_of_face : (d : ℕ) (ws : List (List ℕ)) (tallies : List FaceTally) 
 tally_of_face d ws tallies a face f some =
     let c = a.whole face f some in
     let i =
-        from_In-map (λ (t : FaceTally). t.edges) tallies (set_number face)
-            (In_from_place (map (λ (t : FaceTally). t.edges) tallies) (set_number face) c.0 c.1 c.2) in
+    from_In-map (λ (t : FaceTally). t.edges) tallies (set_number face)
+    (In_from_place (map (λ (t : FaceTally). t.edges) tallies) (set_number face) c.0 c.1 c.2) in
     (i.0, Contains_from tallies i.0 i.1, sym i.2)

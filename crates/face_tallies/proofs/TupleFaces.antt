@@ -1,10 +1,8 @@
 -- What the faces of tuples have at the set of a face.
-use Rattle.std.specs.Prelude.{◌≡◌, ◌≢◌, ℕ, zero, suc, ◌+◌, ◌<◌, ◌≤◌, ℤ, pos, ◌+ℤ◌, Bool, true, false, ◌==◌, nat_eq, List, [], ◌∷◌, map, length}
+use Rattle.std.specs.Prelude.{◌≡◌, ◌≢◌, ℕ, ◌<◌, ℤ, pos, ◌+ℤ◌, Bool, true, false, ◌==◌, List, [], ◌∷◌, map, length}
 use Rattle.std.specs.Prelude.{sum_by, slice_index_or, All, Contains, if◌then◌else◌}
-use Rattle.std.specs.List.{range_with_len}
 use Rattle.std.proofs.Common.{refl, sym, ap, ◌∙◌, subst, arith, inl, inr}
 use Rattle.std.proofs.lemmas.Bool.{and_from, eq-eqb, eqb-true, both_ways, false_from_ne_true}
-use Rattle.std.proofs.lemmas.Bool.Decides.{nat_tests}
 use Rattle.std.proofs.lemmas.List.Sums.{sum_by-cons, sum_by-append}
 use Rattle.std.proofs.lemmas.Slice.Eq.{bytes_eq-Decides}
 use Rattle.lists.specs.Orders.{numbers, without, is_distinct, same_list}
@@ -18,11 +16,11 @@ use Rattle.face_tallies.specs.Tallies.{IsFace}
 use Rattle.face_tallies.specs.Parts.{part_at, parts_of, all_parts, count_at, sum_at}
 use Rattle.face_tallies.proofs.PartLaws.{count_of, sum_of, total-append}
 use Rattle.lists.specs.Bits.{set_number}
-use Rattle.lists.specs.Members.{In, Distinct, Ascends}
+use Rattle.lists.specs.Members.{In, Ascends}
 use Rattle.lists.proofs.Contained.{any_default, each-from_All}
 use Rattle.lists.proofs.MemberLaws.{In_from_place, Contains_from, from_In-map, from_In-flat_map, map_same, map-map, In-numbers, from_In-numbers}
 use Rattle.lists.proofs.Sorting.{bit, count_by-cons}
-use Rattle.lists.proofs.Counts.{count_none, sum_none, sum_one}
+use Rattle.lists.proofs.Counts.{sum_none, sum_one}
 use Rattle.lists.proofs.DistinctLists.{Distinct-range}
 use Rattle.lists.proofs.Bits.{same_from_number}
 
@@ -38,8 +36,8 @@ same_test : (face w : List ℕ) (k : ℕ) → Ascends face → is_distinct w ≡
 same_test face w k a d h =
     same (set_number (face_without w k) == set_number face) (same_list (face_without w k) face)
     (λ t.
-         (bytes_eq-Decides (face_without w k) face).1
-             (same_from_number (face_without w k) face (face_ascends w k d h) a (eqb-true (set_number (face_without w k)) (set_number face) t)))
+    (bytes_eq-Decides (face_without w k) face).1
+    (same_from_number (face_without w k) face (face_ascends w k d h) a (eqb-true (set_number (face_without w k)) (set_number face) t)))
     (λ t. eq-eqb (set_number (face_without w k)) (set_number face) (ap set_number ((bytes_eq-Decides (face_without w k) face).0 t)))
   where
     same : (p q : Bool) → (p ≡ true → q ≡ true) → (q ≡ true → p ≡ true) → p ≡ q
@@ -97,10 +95,10 @@ module _ (face w : List ℕ) (a : Ascends face) (d : is_distinct w ≡ true) whe
   -- the sum at the places of a tuple
   pub place_sum :
       total (map (λ i. if set_number (face_without w i) == set_number face then sign_without w i else pos 0) (numbers (length w)))
-          ≡ sign_of_face face w
+      ≡ sign_of_face face w
   place_sum =
       ap total (map_same (λ i. if set_number (face_without w i) == set_number face then sign_without w i else pos 0)
-          (λ i. if same_list (face_without w i) face then sign_without w i else pos 0) (numbers (length w))
+      (λ i. if same_list (face_without w i) face then sign_without w i else pos 0) (numbers (length w))
       (λ i j. ap (λ (b : Bool). if b then sign_without w i else pos 0) (same_test face w i a d (from_In-numbers (length w) i j))))
       ∙ sym (whole d)
     where
@@ -125,7 +123,7 @@ tuple_sum face w a = by_test (is_distinct w) refl
     by_test : (b : Bool) → is_distinct w ≡ b → sum_at (set_number face) (parts_of w) ≡ sign_of_face face w
     by_test true d =
         ap (sum_at (set_number face)) (distinct_parts w d) ∙ ap total (map-map (part_at w) (sum_of (set_number face)) (numbers (length w)))
-            ∙ place_sum face w a d
+        ∙ place_sum face w a d
     by_test false d = ap (sum_at (set_number face)) (no_parts w d) ∙ sym (none d)
       where
         none : is_distinct w ≡ false → sign_of_face face w ≡ pos 0
@@ -136,14 +134,13 @@ tuple_sum face w a = by_test (is_distinct w) refl
 pub all_count : (face : List ℕ) (ws : List (List ℕ)) → Ascends face → count_at (set_number face) (all_parts ws) ≡ face_count ws face
 all_count face [] a = refl
 all_count face (w ∷ ws) a =
-    omega
-        (
-          arith,
-          sum_by-append (count_of (set_number face)) (parts_of w) (all_parts ws),
-          tuple_count face w a,
-          count_by-cons (has_face face) w ws,
-          all_count face ws a
-        )
+    omega (
+      arith,
+      sum_by-append (count_of (set_number face)) (parts_of w) (all_parts ws),
+      tuple_count face w a,
+      count_by-cons (has_face face) w ws,
+      all_count face ws a,
+    )
 
 pub all_sum : (face : List ℕ) (ws : List (List ℕ)) → Ascends face → sum_at (set_number face) (all_parts ws) ≡ face_sum ws face
 all_sum face [] a = refl
@@ -195,7 +192,7 @@ part_face d set ws wide small h =
           face = face_without w r.0;
           is_face =
               face_of d w r.0 (each-from_All (λ v. length v ≡ d) ws wide w c) (each-from_All (λ v. All (λ x. x < 32) v) ws small w c) e
-                  (from_In-numbers (length w) r.0 r.1);
+              (from_In-numbers (length w) r.0 r.1);
           number = sym same ∙ ap (λ (s : FaceTally). s.edges) r.2;
         }
     by_test w c t same false e i = absurd (subst (λ (ts : List FaceTally). In t ts) (no_parts w e) i)

@@ -44,9 +44,9 @@ joined t part = record { edges = t.edges; count = t.count + part.count; sum = t.
 abbrev pub put_at : ℕ → FaceTally → List FaceTally → List FaceTally
 put_at place part parts =
     if nat_lt place (length parts)
-        && ((slice_index_or parts place part).edges == part.edges) then slice_set parts place (joined (slice_index_or parts place part) part) else
-              parts
-              ++ part ∷ []
+    && ((slice_index_or parts place part).edges == part.edges) then slice_set parts place (joined (slice_index_or parts place part) part) else
+    parts
+    ++ part ∷ []
 
 -- the new parts have at each set what the old ones and some more have
 pub record AddsParts (more old new : List FaceTally) : Type 0 where

@@ -1,9 +1,9 @@
 //! Parts of tallies: counts and sums of faces, of which several may be of one face.
 
-ghost use Rattle.std.specs.Prelude.{◌≡◌, ◌+◌, ◌≤◌, ◌<◌, ◌^◌, [], length, All, OnOk};
-ghost use Rattle.std.specs.List.{AllAdjacentBelow};
+ghost use Rattle.std.specs.Prelude.{◌≡◌, ◌+◌, ◌≤◌, ◌^◌, [], All, OnOk};
 ghost use Rattle.std.specs.List.Sorted.{IsNonDecreasingBy};
 ghost use Rattle.face_tallies.specs.declared.faces.FaceTally.{FaceTally};
+ghost use Rattle.face_tallies.specs.Tallies.{AscendByEdges};
 ghost use Rattle.face_tallies.specs.Parts.{IsWeighed, AddsParts, whole_count, put_at};
 
 use crate::faces::FaceTally;
@@ -39,7 +39,7 @@ pub(crate) fn merge(parts: &[FaceTally], tallies: &mut Vec<FaceTally>) -> Result
     requires few { whole_count parts.now ≤ 2 ^ 62 }
     requires weighed { All IsWeighed parts.now }
     requires sorted { IsNonDecreasingBy (λ (t : FaceTally). t.edges) parts.now }
-    ensures ascending { OnOk result (AllAdjacentBelow (λ (a b : FaceTally). a.edges < b.edges) tallies.new.items (length tallies.new.items)) }
+    ensures ascending { OnOk result (AscendByEdges tallies.new.items) }
     ensures adds { OnOk result (AddsParts parts.now [] tallies.new.items) }
 {
     tallies.clear();

@@ -1,10 +1,7 @@
 //! The rule of faces.
 
-ghost use Rattle.std.specs.Prelude.{◌≡◌, ◌<◌, ℕ, ◌==◌, count_by, bit_and, List, All};
-ghost use Rattle.iso_model.specs.declared.Kind.{Kind};
-ghost use Rattle.iso_model.specs.Acceptance.{rule_faces};
-ghost use Rattle.edge_sets.specs.Sets.{SuitsFacets};
-ghost use Rattle.face_tallies.specs.Tallies.{AreTallies};
+ghost use Rattle.std.specs.Prelude.{◌≡◌, ◌==◌, count_by, bit_and};
+ghost use Rattle.face_tallies.specs.Tallies.{TellsFaceRule};
 ghost use Rattle.face_tallies.specs.Parts.{is_right_in};
 
 use crate::faces::FaceTally;
@@ -12,7 +9,7 @@ use crate::faces::FaceTally;
 /// Whether every face in no facet has count 2 and sum 0, every face in exactly one facet has count 1, and no face lies
 /// in two facets. The edges of each facet are given as a set.
 pub fn keeps_faces(facets: &[u32], tallies: &[FaceTally]) -> bool
-    ensures { (kind : Kind) (d : ℕ) (tuples : List (List ℕ)) → All (λ w. All (λ e. e < 32) w) tuples → SuitsFacets kind d facets.now tuples → AreTallies d tuples tallies.now → result ≡ rule_faces kind d tuples }
+    ensures { TellsFaceRule facets.now tallies.now result }
 {
     for tally in tallies {
         if !is_right(facets, tally) {

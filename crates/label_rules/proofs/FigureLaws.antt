@@ -37,7 +37,7 @@ midpoint_small kind d has e below =
     from_test d (edge_midpoint kind d e)
     (agree (edge_count kind d) (λ k. is_small_point d (edge_midpoint kind d k)) (λ _. true)
     (of_each_cell (λ q n. map (λ k. is_small_point n (edge_midpoint q n k)) (numbers (edge_count q n)) ≡ map (λ _. true) (numbers (edge_count q n)))
-         refl refl refl refl refl refl refl kind d (dimension_cases kind d has) has)
+    refl refl refl refl refl refl refl kind d (dimension_cases kind d has) has)
     e below)
 
 pub corner_small : (kind : Kind) (d : ℕ) → HasDimension kind d → (k : ℕ) → k < corner_count kind d → IsSmallPoint d (corner_point kind d k)
@@ -45,8 +45,8 @@ corner_small kind d has k below =
     from_test d (corner_point kind d k)
     (agree (corner_count kind d) (λ j. is_small_point d (corner_point kind d j)) (λ _. true)
     (of_each_cell
-         (λ q n. map (λ j. is_small_point n (corner_point q n j)) (numbers (corner_count q n)) ≡ map (λ _. true) (numbers (corner_count q n))) refl
-         refl refl refl refl refl refl kind d (dimension_cases kind d has) has)
+    (λ q n. map (λ j. is_small_point n (corner_point q n j)) (numbers (corner_count q n)) ≡ map (λ _. true) (numbers (corner_count q n))) refl
+    refl refl refl refl refl refl kind d (dimension_cases kind d has) has)
     k below)
 
 pub small_ints : (n : ℕ) (p : List ℕ) → 4 ≤ n → All (λ x. x ≤ 4) p → AreSmall n (map pos p)
@@ -69,7 +69,7 @@ corners_few kind d edges facets ends midpoints corners sets f k n h =
     let inside : k < edge_count kind d = omega (arith, below, f.edges_are) in
     let long : k < length ends = omega (arith, h, length-take edges ends) in
     let same : get_or (take edges ends) k n ≡ edge_ends kind d k =
-        get_or-take edges ends k n below ∙ get_or_default ends k n (0, 0) long ∙ f.ends_are k inside in
+    get_or-take edges ends k n below ∙ get_or_default ends k n (0, 0) long ∙ f.ends_are k inside in
     let few = (is_small_cell kind d f.fits).corners in
     let ends_are = ends_inside kind d f.fits k inside in
     subst (λ (p : ℕ × ℕ). (p.0 < 32) × (p.1 < 32)) (sym same) (omega (arith, ends_are.0, few), omega (arith, ends_are.1, few))

@@ -1,5 +1,5 @@
 -- The rule of sides, by the half-space through a tuple's midpoints.
-use Rattle.std.specs.Prelude.{◌≡◌, ℕ, zero, suc, ◌+◌, ◌<◌, ◌≤◌, Bool, true, false, not, ◌&&◌, ◌||◌, ℤ, pos, negsuc, int_lt, int_le, if◌then◌else◌}
+use Rattle.std.specs.Prelude.{◌≡◌, ℕ, zero, suc, ◌+◌, ◌<◌, ◌≤◌, Bool, true, false, not, ◌&&◌, ◌||◌, ℤ, pos, negsuc, int_lt, int_le}
 use Rattle.std.specs.Prelude.{List, [], ◌∷◌, ◌++◌, map, length, All}
 use Rattle.std.specs.List.{list_all, list_any}
 use Rattle.std.proofs.Common.{refl, sym, ap, ◌∙◌, subst, arith, get_or, take}
@@ -32,14 +32,14 @@ sides_of_sound kind d label [] h = refl
 sides_of_sound kind d label (w ∷ ws) h =
     let t = and_parts (is_sound_tuple kind d label w) (list_all (is_sound_tuple kind d label) ws) h in
     ap (λ b. (not b || is_turned kind d label w) && rule_side kind d label ws) t.0
-        ∙ ap (λ b. is_turned kind d label w && b) (sides_of_sound kind d label ws t.1)
+    ∙ ap (λ b. is_turned kind d label w && b) (sides_of_sound kind d label ws t.1)
 
 pub side_rule : (kind : Kind) (d label : ℕ) (ws : List (List ℕ)) → rule_edges kind d label ws ≡ true
     → rule_side kind d label ws ≡ list_all (is_turned kind d label) ws
 side_rule kind d label ws h =
     sides_of_sound kind d label ws
     (and_parts (list_all (is_sound_tuple kind d label) ws)
-         (list_all (λ e. not (is_bipolar_in kind d label e) || list_any (λ w. has w e) ws) (numbers (edge_count kind d))) h).0
+    (list_all (λ e. not (is_bipolar_in kind d label e) || list_any (λ w. has w e) ws) (numbers (edge_count kind d))) h).0
 
 pub side_fails : (kind : Kind) (d label : ℕ) (ws : List (List ℕ)) (i : ℕ) (w : List ℕ) → i < length ws → w ≡ get_or ws i w
     → false ≡ is_turned kind d label w → rule_edges kind d label ws ≡ true
@@ -74,11 +74,10 @@ unfolding steps
 steps_wide kind d p [] has l all = tt
 steps_wide kind d p (x ∷ w) has l all =
     let long : length (map pos (edge_midpoint kind d x)) ≡ d =
-        length-map (edge_midpoint kind d x) pos ∙ (midpoint_small kind d has x (All-head (λ e. e < edge_count kind d) x w all)).wide in
-    let short : length (map pos p) ≡ d = length-map p pos ∙ l in
-    (
+    length-map (edge_midpoint kind d x) pos ∙ (midpoint_small kind d has x (All-head (λ e. e < edge_count kind d) x w all)).wide in
+    let short : length (map pos p) ≡ d = length-map p pos ∙ l in (
       length-minus (map pos (edge_midpoint kind d x)) (map pos p) (long ∙ sym short) ∙ long,
-      steps_wide kind d p w has l (All-tail (λ e. e < edge_count kind d) x w all)
+      steps_wide kind d p w has l (All-tail (λ e. e < edge_count kind d) x w all),
     )
 
 pub record IsInDimension (d : ℕ) : Type 0 where
@@ -96,8 +95,8 @@ turn_by_normal kind d (x ∷ w) step has t l =
     let p = edge_midpoint kind d x in
     let b = in_dimension kind d has in
     let wide =
-        steps_wide kind d p w has (midpoint_small kind d has x (All-head (λ e. e < edge_count kind d) x w t.1)).wide
-            (All-tail (λ e. e < edge_count kind d) x w t.1) in
+    steps_wide kind d p w has (midpoint_small kind d has x (All-head (λ e. e < edge_count kind d) x w t.1)).wide
+    (All-tail (λ e. e < edge_count kind d) x w t.1) in
     ap (λ rows. turn (rows ++ step ∷ [])) (steps_of_points kind d p w)
     ∙ (turn_laws d b.least b.greatest).expand (steps kind d p w) step (omega (arith, t.0, steps_count kind d p w)) wide l
     ∙ ap (λ rows. dot (cofactors rows) step) (sym (steps_of_rows kind d p w))
@@ -116,14 +115,14 @@ ascent_wide kind d label e has below =
     let to = corner_wide kind d has (positive_end kind d label e) (chosen_below n ends.0 ends.1 (is_set label ends.0) o.0 o.1) in
     let from = corner_wide kind d has (negative_end kind d label e) (chosen_below n ends.1 ends.0 (is_set label ends.0) o.1 o.0) in
     length-minus (map pos (corner_point kind d (positive_end kind d label e))) (map pos (corner_point kind d (negative_end kind d label e)))
-        (to ∙ sym from)
-        ∙ to
+    (to ∙ sym from)
+    ∙ to
 
 pub edge_turn : (kind : Kind) (d label : ℕ) (w : List ℕ) (e : ℕ) (points : List (List ℤ)) (normal step : List ℤ) (r : ℤ) → HasDimension kind d
     → IsTuple kind d w → e < edge_count kind d
     → points ≡ map (λ x. map pos (edge_midpoint kind d x)) w → normal ≡ (hyper points).normal
     → step ≡ difference (corner_point kind d (positive_end kind d label e)) (corner_point kind d (negative_end kind d label e)) → r ≡ dot normal step
-        → side_turn kind d label w e ≡ r
+    → side_turn kind d label w e ≡ r
 edge_turn kind d label w e points normal step r has t below points_are normal_is step_is product =
     let ascent = difference (corner_point kind d (positive_end kind d label e)) (corner_point kind d (negative_end kind d label e)) in
     turn_by_normal kind d w ascent has t (ascent_wide kind d label e has below)
@@ -143,11 +142,11 @@ not_positive_from (negsuc n) h = refl
 pub turned_more : (kind : Kind) (d label : ℕ) (w : List ℕ) (i : ℕ) (r : ℤ) → i < length w → side_turn kind d label w (get_or w i 0) ≡ r
     → int_le r (pos 0) ≡ false
     → list_all (λ e. int_lt (pos 0) (side_turn kind d label w e)) (take i w) ≡ true
-        → list_all (λ e. int_lt (pos 0) (side_turn kind d label w e)) (take (i + 1) w) ≡ true
+    → list_all (λ e. int_lt (pos 0) (side_turn kind d label w e)) (take (i + 1) w) ≡ true
 turned_more kind d label w i r inside is positive before =
     let test : ℕ → Bool = λ e. int_lt (pos 0) (side_turn kind d label w e) in
     list_all_more test w i 0 inside
-        ∙ and_from (list_all test (take i w)) (test (get_or w i 0)) before (ap (λ z. int_lt (pos 0) z) is ∙ positive_from r positive)
+    ∙ and_from (list_all test (take i w)) (test (get_or w i 0)) before (ap (λ z. int_lt (pos 0) z) is ∙ positive_from r positive)
 
 pub turned_fails : (kind : Kind) (d label : ℕ) (w : List ℕ) (i : ℕ) (r : ℤ) → i < length w → side_turn kind d label w (get_or w i 0) ≡ r
     → int_le r (pos 0) ≡ true → false ≡ is_turned kind d label w

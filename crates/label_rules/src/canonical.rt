@@ -6,7 +6,7 @@ ghost use Rattle.iso_model.specs.Cells.{HasDimension, corner_count, edge_count, 
 ghost use Rattle.iso_model.specs.Tables.{IsTuple};
 ghost use Rattle.edge_sets.specs.Sets.{Suits, SuitsFacets};
 
-use crate::lists::{corners_of, ends_of, facets_of, midpoints_of};
+use crate::cell_lists::{corners_of, ends_of, facets_of, midpoints_of};
 use cell_lattice::{Cell, Kind};
 use edge_sets::bipolar_set;
 use std::marker::Model;
@@ -61,14 +61,14 @@ impl<const D: usize> Figures<D> {
 
     /// The set of the edges of each facet, in the order of the facets.
     pub fn facets(&self) -> &[u32]
-        ensures { (tuples : List (List ℕ)) → All (IsTuple self.now D) tuples → SuitsFacets self.now D result.now tuples }
+        ensures { (ws : List (List ℕ)) → All (IsTuple self.now D) ws → SuitsFacets self.now D result.now ws }
     {
         &self.facet_sets[..self.facets]
     }
 
     /// The set of the edges that are bipolar in a labelling of the corners.
     pub fn bipolar(&self, label: u32) -> u32
-        ensures { (tuples : List (List ℕ)) → All (IsTuple self.now D) tuples → Suits self.now D label result tuples }
+        ensures { (ws : List (List ℕ)) → All (IsTuple self.now D) ws → Suits self.now D label result ws }
     {
         bipolar_set(label, &self.edge_ends[..self.edges])
     }

@@ -6,7 +6,7 @@
 #![tactic(auto)]
 
 mod canonical;
-mod lists;
+mod cell_lists;
 mod rules;
 mod side;
 #[cfg(test)]

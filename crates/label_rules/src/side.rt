@@ -3,10 +3,11 @@
 ghost use Rattle.std.specs.Prelude.{◌≡◌, ◌<◌, ◌≤◌, ℕ, true, map, pos, int_lt, All};
 ghost use Rattle.std.specs.List.{list_all};
 ghost use Rattle.polynomials.specs.Small.{AreSmall};
-ghost use Rattle.iso_model.specs.Turns.{difference, minus};
-ghost use Rattle.iso_model.specs.Cells.{corner_point, edge_count, edge_midpoint};
+ghost use Rattle.iso_model.specs.Turns.{minus};
+ghost use Rattle.iso_model.specs.Cells.{edge_count, edge_midpoint};
 ghost use Rattle.iso_model.specs.Tables.{IsTuple};
-ghost use Rattle.iso_model.specs.Acceptance.{positive_end, negative_end, side_turn, rule_edges, rule_side};
+ghost use Rattle.iso_model.specs.Acceptance.{side_turn, rule_edges, rule_side};
+ghost use Rattle.label_rules.specs.Figures.{ascent as ascent_of};
 
 use crate::Figures;
 use edge_sets::has_member;
@@ -61,7 +62,7 @@ impl<const D: usize> Figures<D> {
     /// The step from the negative to the positive end of a bipolar edge.
     fn ascent(&self, label: u32, edge: u8) -> [i64; D]
         requires { edge < edge_count self.now D }
-        ensures step { result ≡ difference (corner_point self.now D (positive_end self.now D label edge)) (corner_point self.now D (negative_end self.now D label edge)) }
+        ensures step { result ≡ ascent_of self.now D label edge }
         ensures small { AreSmall 64 result }
     {
         let _kind = self.kind();

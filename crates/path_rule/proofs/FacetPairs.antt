@@ -1,5 +1,5 @@
 -- The two facets that have an edge, by the sets of their edges.
-use Rattle.std.specs.Prelude.{◌≡◌, ◌<◌, ◌≤◌, ◌+◌, ◌-◌, ℕ, zero, suc, Bool, true, false, ◌&&◌, cond, List, [], ◌∷◌, filter, length, slice_index}
+use Rattle.std.specs.Prelude.{◌≡◌, ◌<◌, ◌≤◌, ◌+◌, ◌-◌, ℕ, zero, suc, Bool, true, false, cond, List, [], ◌∷◌, filter, length, slice_index}
 use Rattle.std.specs.List.{list_any, list_all, range_with_len}
 use Rattle.std.proofs.Common.{refl, sym, ap, ◌∙◌, arith, inl, inr}
 use Rattle.std.proofs.lemmas.Bool.{cases_eq}
@@ -80,7 +80,7 @@ facets_from : (kind : Kind) (e : ℕ) (facets : List ℕ) (ws : List (List ℕ))
     → from + n ≡ length facets
     → IsFirst facets e from f
     → filter (λ g. list_all (edge_in_facet kind 3 g) (e ∷ [])) (range_with_len from n)
-        ≡ f ∷ filter (λ g. list_all (edge_in_facet kind 3 g) (e ∷ [])) (range_with_len (f + 1) (from + n - (f + 1)))
+    ≡ f ∷ filter (λ g. list_all (edge_in_facet kind 3 g) (e ∷ [])) (range_with_len (f + 1) (from + n - (f + 1)))
 facets_from kind e facets ws s is_edge from n f all first =
     let inside = first.inside in
     first_passes (λ g. list_all (edge_in_facet kind 3 g) (e ∷ [])) from n f first.low (omega (arith, all, inside))

@@ -1,9 +1,8 @@
 -- Paths from facet to facet, and where they begin.
-use Rattle.std.specs.Prelude.{◌≡◌, ◌≢◌, ◌<◌, ◌⊎◌, ℕ, zero, suc, Bool, true, false, not, ◌&&◌, ◌==◌, List, [], ◌∷◌, map, filter, length, slice_index_or, All}
+use Rattle.std.specs.Prelude.{◌≡◌, ◌≢◌, ◌<◌, ℕ, zero, suc, Bool, true, false, not, ◌&&◌, ◌==◌, List, [], ◌∷◌, map, filter, length, slice_index_or, All}
 use Rattle.std.specs.List.{list_any}
 use Rattle.std.proofs.Common.{refl, sym, ap, ◌∙◌, subst, arith, inl, inr}
 use Rattle.std.proofs.lemmas.Bool.{and_parts, and_from, cases_lt, false≢true, cases_Bool}
-use Rattle.std.proofs.lemmas.Bool.Decides.{nat_tests}
 use Rattle.iso_model.specs.declared.Kind.{Kind}
 use Rattle.iso_model.specs.Cells.{edge_count, edge_in_facet}
 use Rattle.lists.specs.Orders.{has, orders_of, picks}
@@ -89,7 +88,7 @@ leads_of_reach kind e f g x ws some lies t =
     let b = path_begins kind e g x ws r.0 some r.1 r.2 in
     any_from (leads kind 3 e f g) all r.0 r.1
     (any_from (λ y. edge_in_facet kind 3 f y && goes_on kind 3 e g y r.0) (slice_index_or r.0 0 []) x b.first_has
-         (and_from (edge_in_facet kind 3 f x) (goes_on kind 3 e g x r.0) lies r.2))
+    (and_from (edge_in_facet kind 3 f x) (goes_on kind 3 e g x r.0) lies r.2))
 
 pub reach_of_leads : (kind : Kind) (e f g : ℕ) (ws : List (List ℕ)) → some_leads kind e f g ws ≡ true
     → (x : ℕ) × (edge_in_facet kind 3 f x ≡ true) × (reaches kind e g x ws ≡ true)

@@ -1,5 +1,5 @@
 -- Tests of all orders of a list: the first member of an order is picked, and the others follow.
-use Rattle.std.specs.Prelude.{◌≡◌, ℕ, suc, Bool, true, false, ◌||◌, List, [], ◌∷◌, ◌++◌, map, flat_map}
+use Rattle.std.specs.Prelude.{◌≡◌, ℕ, suc, Bool, false, ◌||◌, List, [], ◌∷◌, ◌++◌, map, flat_map}
 use Rattle.std.specs.List.{list_any}
 use Rattle.std.proofs.Common.{refl, ap, ◌∙◌, inl, inr}
 use Rattle.std.proofs.lemmas.List.Concat.{flat_map-cons}
@@ -28,7 +28,7 @@ pub orders_suc : {X : Type 0} (test : List X → Bool) (n : ℕ) (xs : List X)
 orders_suc {X} test n xs =
     any_flat_map test (λ (p : X × List X). map (λ r. p.0 ∷ r) (orders_of n p.1)) (picks xs)
     ∙ any_same (λ (p : X × List X). list_any test (map (λ r. p.0 ∷ r) (orders_of n p.1)))
-        (λ (p : X × List X). list_any (λ r. test (p.0 ∷ r)) (orders_of n p.1)) (picks xs)
+    (λ (p : X × List X). list_any (λ r. test (p.0 ∷ r)) (orders_of n p.1)) (picks xs)
     (λ p. list_any-map test (λ r. p.0 ∷ r) (orders_of n p.1))
 
 -- no pick passes where no member does
@@ -52,6 +52,6 @@ picks_only {X} s test [] t back before after =
     ∙ or_false (test (s t, map s back))
 picks_only {X} s test (i ∷ front) t back before after =
     ap (λ b. b || list_any test (map (λ (p : X × List X). (p.0, s i ∷ p.1)) (picks (map s (front ++ t ∷ back)))))
-        (before i (inl refl) (map s (front ++ t ∷ back)))
+    (before i (inl refl) (map s (front ++ t ∷ back)))
     ∙ list_any-map test (λ (p : X × List X). (p.0, s i ∷ p.1)) (picks (map s (front ++ t ∷ back)))
     ∙ picks_only s (λ (p : X × List X). test (p.0, s i ∷ p.1)) front t back (λ j m rest. before j (inr m) (s i ∷ rest)) (λ j m rest. after j m (s i ∷ rest))

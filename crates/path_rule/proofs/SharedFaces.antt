@@ -48,7 +48,7 @@ one_place p (w ∷ ws) (suc i) (suc j) h k t u few =
 -- of three places two are the same, where two members pass
 two_places : (p : List ℕ → Bool) (ws : List (List ℕ)) (i j k : ℕ) → i < length ws → j < length ws → k < length ws
     → p (slice_index_or ws i []) ≡ true → p (slice_index_or ws j []) ≡ true → p (slice_index_or ws k []) ≡ true → count_by p ws ≤ 2
-        → (i ≡ j) ⊎ ((i ≡ k) ⊎ (j ≡ k))
+    → (i ≡ j) ⊎ ((i ≡ k) ⊎ (j ≡ k))
 two_places p [] i j k h m n t u v few = absurd (omega arith)
 two_places p (w ∷ ws) zero zero k h m n t u v few = inl refl
 two_places p (w ∷ ws) zero (suc j) zero h m n t u v few = inr (inl refl)
@@ -61,7 +61,7 @@ two_places p (w ∷ ws) (suc i) (suc j) zero h m n t u v few =
     let b = ap bit v in inl (ap suc (one_place p ws i j (omega arith) (omega arith) t u (omega (arith, count_by-cons p w ws, b))))
 two_places p (w ∷ ws) (suc i) (suc j) (suc k) h m n t u v few =
     elim (two_places p ws i j k (omega arith) (omega arith) (omega arith) t u v (omega (arith, count_by-cons p w ws))) as
-        (λ _. (suc i ≡ suc j) ⊎ ((suc i ≡ suc k) ⊎ (suc j ≡ suc k))) [
+    (λ _. (suc i ≡ suc j) ⊎ ((suc i ≡ suc k) ⊎ (suc j ≡ suc k))) [
       | inl s ↦ inl (ap suc s)
       | inr o ↦ elim o as (λ _. (suc i ≡ suc j) ⊎ ((suc i ≡ suc k) ⊎ (suc j ≡ suc k))) [ inl s ↦ inr (inl (ap suc s)) | inr s ↦ inr (inr (ap suc s)) ]
     ]
@@ -92,8 +92,8 @@ face_members e x P a b y i = by (from_In-sorted y (e ∷ x ∷ []) i)
 has_face_of : (e x : ℕ) (w : List ℕ) → x ≢ e → length w ≡ 3 → is_distinct w ≡ true → has w e ≡ true → has w x ≡ true → has_face (face_of e x) w ≡ true
 has_face_of e x w off long distinct a b =
     has_face_all (face_of e x) w (face_ascends e x off) (omega (arith, long, two_long e x))
-        (face_members e x (λ y. In y w) (In_of_has w e a) (In_of_has w x b))
-        ∙ distinct
+    (face_members e x (λ y. In y w) (In_of_has w e a) (In_of_has w x b))
+    ∙ distinct
 
 -- ---- what the rule of faces says of it
 
@@ -116,11 +116,11 @@ face_right : (kind : Kind) (e x : ℕ) (ws : List (List ℕ)) (w : List ℕ) →
 face_right kind e x ws w rule inside distinct has_it =
     let at : List ℕ → ℕ → Bool = λ v i. is_face_right ws (face_without v i) (length (facets_with kind 3 (face_without v i))) in
     let told =
-        not_or (is_distinct w) (list_all (at w) (numbers (length w)))
-            (all_In (λ v. not (is_distinct v) || list_all (at v) (numbers (length v))) ws w rule inside) distinct in
+    not_or (is_distinct w) (list_all (at w) (numbers (length w)))
+    (all_In (λ v. not (is_distinct v) || list_all (at v) (numbers (length v))) ws w rule inside) distinct in
     let place = face_place (face_of e x) w has_it in
     subst (λ (face : List ℕ). is_face_right ws face (length (facets_with kind 3 face)) ≡ true) place.2
-        (all_In (at w) (numbers (length w)) place.0 told (In-numbers (length w) place.0 place.1))
+    (all_In (at w) (numbers (length w)) place.0 told (In-numbers (length w) place.0 place.1))
 
 at_most_two : (ws : List (List ℕ)) (face : List ℕ) (n : ℕ) → is_face_right ws face n ≡ true → face_count ws face ≤ 2
 at_most_two ws face zero h =
@@ -150,7 +150,7 @@ sound_at : (kind : Kind) (label : ℕ) (ws : List (List ℕ)) (i : ℕ) → rule
 sound_at kind label ws i rule inside =
     all_In (is_sound_tuple kind 3 label) ws (slice_index_or ws i [])
     (and_parts (list_all (is_sound_tuple kind 3 label) ws)
-         (list_all (λ e. not (is_bipolar_in kind 3 label e) || list_any (λ w. has w e) ws) (numbers (edge_count kind 3))) rule).0
+    (list_all (λ e. not (is_bipolar_in kind 3 label e) || list_any (λ w. has w e) ws) (numbers (edge_count kind 3))) rule).0
     (In_place ws i inside)
 
 -- the parts of a sound tuple
@@ -191,7 +191,7 @@ edge_suits kind label bipolar e ws suits edges faces member = record {
     parts : (i : ℕ) → i < length ws → ((length (slice_index_or ws i []) == 3) ≡ true) × (is_distinct (slice_index_or ws i []) ≡ true)
     parts i h =
         sound_parts (length (slice_index_or ws i []) == 3) (is_distinct (slice_index_or ws i []))
-            (list_all (is_bipolar_in kind 3 label) (slice_index_or ws i [])) (sound_at kind label ws i edges h)
+        (list_all (is_bipolar_in kind 3 label) (slice_index_or ws i [])) (sound_at kind label ws i edges h)
 
     long : (i : ℕ) → i < length ws → length (slice_index_or ws i []) ≡ 3
     long i h = eqb-true (length (slice_index_or ws i [])) 3 (parts i h).0
@@ -208,11 +208,11 @@ edge_suits kind label bipolar e ws suits edges faces member = record {
     covered : 1 ≤ count_by (λ w. has w e) ws
     covered =
         let tests =
-            (and_parts (list_all (is_sound_tuple kind 3 label) ws)
-                 (list_all (λ e. not (is_bipolar_in kind 3 label e) || list_any (λ w. has w e) ws) (numbers (edge_count kind 3))) edges).1 in
+        (and_parts (list_all (is_sound_tuple kind 3 label) ws)
+        (list_all (λ e. not (is_bipolar_in kind 3 label e) || list_any (λ w. has w e) ws) (numbers (edge_count kind 3))) edges).1 in
         let here =
-            all_In (λ e. not (is_bipolar_in kind 3 label e) || list_any (λ w. has w e) ws) (numbers (edge_count kind 3)) e tests
-                (In-numbers (edge_count kind 3) e is_edge) in
+        all_In (λ e. not (is_bipolar_in kind 3 label e) || list_any (λ w. has w e) ws) (numbers (edge_count kind 3)) e tests
+        (In-numbers (edge_count kind 3) e is_edge) in
         let any = not_or (is_bipolar_in kind 3 label e) (list_any (λ w. has w e) ws) here (sym (suits.bipolar_is e is_edge) ∙ member) in
         let r = from_any (λ w. has w e) ws any in
         count_some (λ w. has w e) ws r.0 r.1 r.2

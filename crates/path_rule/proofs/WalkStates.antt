@@ -31,8 +31,8 @@ read_range f d a [] h = refl
 read_range {X} f d a (x ∷ xs) h =
     let first : f a ≡ x = subst (λ (m : ℕ). f m ≡ x) (let e : a + 0 ≡ a = omega arith in e) (h 0 (omega arith)) in
     let further =
-        read_range f d (a + 1) xs
-            (λ k less. let e : a + suc k ≡ a + 1 + k = omega arith in subst (λ (m : ℕ). f m ≡ slice_index_or xs k d) e (h (suc k) (omega arith))) in
+    read_range f d (a + 1) xs
+    (λ k less. let e : a + suc k ≡ a + 1 + k = omega arith in subst (λ (m : ℕ). f m ≡ slice_index_or xs k d) e (h (suc k) (omega arith))) in
     ap (λ (y : X). y ∷ map f (range_with_len (a + 1) (length xs))) first ∙ ap (λ (l : List X). x ∷ l) further
 
 read_all : (ws : List (List ℕ)) → map (λ i. slice_index_or ws i []) (numbers (length ws)) ≡ ws
@@ -114,9 +114,9 @@ walk_goes e start ws all x present steps t q shares w next =
       whole = omega (arith, w.whole, a.shorter);
       same = λ kind f.
           w.same kind f ∙ ap (λ (n : ℕ). leads_on kind e f x n ws w.left) a.shorter
-              ∙ ap (λ (l : List ℕ). leads_on kind e f x (suc (length (a.front ++ a.back))) ws l) a.whole
+          ∙ ap (λ (l : List ℕ). leads_on kind e f x (suc (length (a.front ++ a.back))) ws l) a.whole
           ∙ leads_step kind e f x q (length (a.front ++ a.back)) ws a.front t a.back found.triangle.apart
-              (tells_third e x q (slice_index_or ws t []) w.walking.off found.triangle).pair lacks;
+          (tells_third e x q (slice_index_or ws t []) w.walking.off found.triangle).pair lacks;
     }
   where
     false_from : (b : Bool) → (b ≡ true → ⊥) → b ≡ false

@@ -11,7 +11,7 @@ use Rattle.path_rule.specs.PathRule.{third}
 third_is : (e x : ℕ) (w : List ℕ) → has w e ≡ true → has w x ≡ true → third e x w ≡ find (λ y. not (y == e) && not (y == x)) w
 third_is e x w a b =
     ap (λ c. if c && has w x then find (λ y. not (y == e) && not (y == x)) w else None) a
-        ∙ ap (λ c. if c then find (λ y. not (y == e) && not (y == x)) w else None) b
+    ∙ ap (λ c. if c then find (λ y. not (y == e) && not (y == x)) w else None) b
 
 find_first : (p : ℕ → Bool) (w : List ℕ) (i : ℕ) → i < length w → ((k : ℕ) → k < i → p (get_or w k 0) ≡ false) → p (get_or w i 0) ≡ true
     → find p w ≡ Some (get_or w i 0)
@@ -26,7 +26,7 @@ find_none p (x ∷ w) all = ap (λ b. if b then Some x else find p w) (all 0 (om
 
 pub third_first : (e x : ℕ) (w : List ℕ) (i : ℕ) → has w e ≡ true → has w x ≡ true → i < length w
     → ((k : ℕ) → k < i → (not (get_or w k 0 == e) && not (get_or w k 0 == x)) ≡ false) → (not (get_or w i 0 == e) && not (get_or w i 0 == x)) ≡ true
-        → Some (get_or w i 0) ≡ third e x w
+    → Some (get_or w i 0) ≡ third e x w
 third_first e x w i a b inside before here = sym (third_is e x w a b ∙ find_first (λ y. not (y == e) && not (y == x)) w i inside before here)
 
 pub third_none : (e x : ℕ) (w : List ℕ) → has w e ≡ true → has w x ≡ true

@@ -154,9 +154,9 @@ walk_step e x present t q ws is shares w next a found left = record {
     | inl n ↦ elim (a.parts i n) as (λ _. ⊥) [
       | inl s ↦ by_x y j m hj (elim (one_of_two e x q y (slice_index_or ws t []) w.off found.triangle off
           (subst (λ (k : ℕ). has (slice_index_or ws k []) y ≡ true) s h.2)) as (λ _. y ≡ x) [
-        | inl s ↦ s
-        | inr s ↦ absurd (ne s)
-      ])
+            | inl s ↦ s
+            | inr s ↦ absurd (ne s)
+          ])
       | inr o ↦ out o
     ]
     | inr gone ↦ elim (cases_eq y x) as (λ _. ⊥) [

@@ -1,14 +1,7 @@
 //! The path rule.
 
-ghost use Rattle.std.specs.Prelude.{◌≡◌, ◌≢◌, ℕ, ◌<◌, ◌≤◌, true, false, length, slice_index, All, IfSome, IfNone};
-ghost use Rattle.std.specs.List.{list_any};
-ghost use Rattle.iso_model.specs.declared.Kind.{Kind};
-ghost use Rattle.lists.specs.Orders.{orders_of};
-ghost use Rattle.iso_model.specs.Cells.{edge_count, edge_in_facet};
-ghost use Rattle.iso_model.specs.Tables.{IsTuple};
-ghost use Rattle.iso_model.specs.Acceptance.{rule_edges, rule_faces, rule_path, others_at, leads, is_path};
-ghost use Rattle.edge_sets.specs.Sets.{Suits, SuitsFacets};
-ghost use Rattle.path_rule.specs.PathRule.{reaches, IsFree, SharesByTwo, SuitsEdge, SuitsPair};
+ghost use Rattle.std.specs.Prelude.{◌≡◌, ◌≢◌, ◌<◌, ◌≤◌, true, length, slice_index, All, IfSome, IfNone};
+ghost use Rattle.path_rule.specs.PathRule.{NoneHas, TellsPathRule, TellsPathAt, TellsLead, TellsReach};
 ghost use Rattle.lists.specs.Bits.{is_set};
 
 use crate::walk::walk_end;
@@ -20,9 +13,7 @@ use edge_sets::has_member;
 /// sets. The answer is this rule's where the tuples keep the rule of bipolar edges and the rule of faces.
 pub fn keeps_path<const D: usize>(facets: &[u32], bipolar: u32, tuples: &[[u8; D]]) -> bool
     requires { All (λ w. All (λ e. e < 32) w) tuples.now }
-    ensures { (kind : Kind) (label : ℕ) → SuitsFacets kind D facets.now tuples.now → Suits kind D label bipolar tuples.now
-        → rule_edges kind D label tuples.now ≡ true → rule_faces kind D tuples.now ≡ true
-        → result ≡ rule_path kind D label tuples.now }
+    ensures { TellsPathRule D facets.now bipolar tuples.now result }
 {
     if D != 3 {
         return true;
@@ -39,7 +30,7 @@ pub fn keeps_path<const D: usize>(facets: &[u32], bipolar: u32, tuples: &[[u8; D
 fn has_path<const D: usize>(facets: &[u32], edge: u8, tuples: &[[u8; D]]) -> bool
     requires edge { edge < 32 }
     requires edges { All (λ w. All (λ e. e < 32) w) tuples.now }
-    ensures { (kind : Kind) → SuitsFacets kind 3 facets.now tuples.now → SuitsEdge kind edge tuples.now → result ≡ is_path kind 3 edge tuples.now }
+    ensures { TellsPathAt facets.now edge tuples.now result }
 {
     let Some(first) = facet_with(facets, edge, 0) else {
         return false;
@@ -57,8 +48,8 @@ fn facet_with(facets: &[u32], edge: u8, from: usize) -> Option<usize>
     ensures from { IfSome result (λ f. from ≤ f) }
     ensures inside { IfSome result (λ f. f < length facets.now) }
     ensures found { IfSome result (λ f. is_set (slice_index facets.now f) edge ≡ true) }
-    ensures before { IfSome result (λ f. (i : ℕ) → from ≤ i → i < f → is_set (slice_index facets.now i) edge ≡ false) }
-    ensures none { IfNone result ((i : ℕ) → from ≤ i → i < length facets.now → is_set (slice_index facets.now i) edge ≡ false) }
+    ensures before { IfSome result (NoneHas facets.now edge from) }
+    ensures none { IfNone result (NoneHas facets.now edge from (length facets.now)) }
 {
     for facet in from..facets.len() {
         if has_member(facets[facet], edge) {
@@ -71,8 +62,7 @@ fn facet_with(facets: &[u32], edge: u8, from: usize) -> Option<usize>
 /// Whether the triangles at an edge form one path from a face in one facet to a face in another.
 fn leads_across<const D: usize>(first: u32, second: u32, edge: u8, tuples: &[[u8; D]]) -> bool
     requires edges { All (λ w. All (λ e. e < 32) w) tuples.now }
-    ensures { (kind : Kind) (f g : ℕ) → All (IsTuple kind 3) tuples.now → SuitsPair kind f g first second edge → SuitsEdge kind edge tuples.now
-        → result ≡ list_any (leads kind 3 edge f g) (orders_of (length (others_at edge tuples.now)) (others_at edge tuples.now)) }
+    ensures { TellsLead first second edge tuples.now result }
 {
     for start in 0..32 {
         if start != edge && has_member(first, start) && ends_in(second, edge, start, tuples) {
@@ -87,9 +77,7 @@ fn ends_in<const D: usize>(facet: u32, edge: u8, start: u8, tuples: &[[u8; D]]) 
     requires apart { start ≢ edge }
     requires small { start < 32 }
     requires edges { All (λ w. All (λ e. e < 32) w) tuples.now }
-    ensures { (kind : Kind) (f : ℕ) → All (IsTuple kind 3) tuples.now → 0 < length (others_at edge tuples.now) → edge_in_facet kind 3 f edge ≡ true
-        → ((x : ℕ) → x < edge_count kind 3 → is_set facet x ≡ edge_in_facet kind 3 f x) → SharesByTwo edge tuples.now → IsFree edge start tuples.now
-        → result ≡ reaches kind edge f start tuples.now }
+    ensures { TellsReach facet edge start tuples.now result }
 {
     match walk_end(tuples, edge, start) {
         Some(face) => has_member(facet, face),

@@ -3,7 +3,7 @@
 ghost use Rattle.std.specs.Prelude.{◌≡◌, ◌≢◌, ℕ, ◌<◌, length, slice_index_or, All, None, IfSome, IfNone};
 ghost use Rattle.lists.specs.Orders.{has};
 ghost use Rattle.iso_model.specs.Acceptance.{others_at};
-ghost use Rattle.path_rule.specs.PathRule.{third, IsNext, IsLast, SharesByTwo, IsFree, TellsEnd};
+ghost use Rattle.path_rule.specs.PathRule.{third, IsNext, IsLast, SharesByTwo, IsFree, TellsEnd, IsBoundedBy};
 
 /// Whether a tuple has an edge.
 fn has_edge<const D: usize>(tuple: &[u8; D], edge: u8) -> bool
@@ -66,7 +66,7 @@ pub(crate) fn walk_end<const D: usize>(tuples: &[[u8; D]], edge: u8, start: u8) 
     requires apart { start ≢ edge }
     ensures end { SharesByTwo edge tuples.now → IsFree edge start tuples.now → TellsEnd edge start tuples.now result }
     ensures small { IfSome result (λ y. (m : ℕ) → start < m → All (λ w. All (λ e. e < m) w) tuples.now → y < m) }
-    ensures met { 0 < length (others_at edge tuples.now) → IfSome result (λ y. (m : ℕ) → All (λ w. All (λ e. e < m) w) tuples.now → y < m) }
+    ensures met { 0 < length (others_at edge tuples.now) → IfSome result (IsBoundedBy tuples.now) }
 {
     let mut face = start;
     let mut present = None;

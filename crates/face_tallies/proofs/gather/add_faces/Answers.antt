@@ -9,7 +9,7 @@ loop-place-init g c = adds_none c.args.parts.now.items c.requires.weighed
 pub loop-place-preserved : goal.loop-place-preserved
 loop-place-preserved g c =
     rw (places_more c.args.tuple.now c.loop-place.place)
-        (adds_more _ _ _ _ _ c.loop-place.invariant (rw c.face_at-part.ensures at c.in_ok-add_part.ensures))
+    (adds_more _ _ _ _ _ c.loop-place.invariant (rw c.face_at-part.ensures at c.in_ok-add_part.ensures))
 
 pub add_part-requires-clause-few : goal.add_part-requires-clause-few
 add_part-requires-clause-few g c =

@@ -9,7 +9,7 @@ use Rattle.face_tallies.proofs.parts.merge.Goals as goal
 pub loop-part-init : goal.loop-part-init
 loop-part-init c =
     rw c.clear.ensures.items
-        (record { adds = adds_none [] (All-nil IsWeighed); ascends = λ k d h. absurd (omega arith); below = below_none c.args.parts.now })
+    (record { adds = adds_none [] (All-nil IsWeighed); ascends = λ k d h. absurd (omega arith); below = below_none c.args.parts.now })
 
 pub loop-part-preserved : goal.loop-part-preserved
 loop-part-preserved c =

@@ -20,5 +20,5 @@ returns c = λ kind d ws small s a.
     let facets = c.args.facets.now in
     let all = take_all c.loop-tally.tally-index c.args.tallies.now c.loop-tally-test.false in
     sym
-        (rule_kept kind d facets ws c.args.tallies.now small s a
-             (subst (λ (l : List FaceTally). list_all (is_right_in facets) l ≡ true) all c.loop-tally.invariant))
+    (rule_kept kind d facets ws c.args.tallies.now small s a
+    (subst (λ (l : List FaceTally). list_all (is_right_in facets) l ≡ true) all c.loop-tally.invariant))

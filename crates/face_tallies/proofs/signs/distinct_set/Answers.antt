@@ -18,7 +18,7 @@ loop-edge-preserved g c =
       distinct = distinct_more w i x inside read c.loop-edge.invariant.distinct (sym (c.loop-edge.invariant.set x) ∙ sym c.if-has_member.ensures);
       set =
           set_more c.loop-edge.set c.with_edge-set.result w i x inside read c.loop-edge.invariant.set c.with_edge-set.ensures.same
-              c.with_edge-set.ensures.others;
+          c.with_edge-set.ensures.others;
     }
 
 pub returns-then-has_member-clause-repeated : goal.returns-then-has_member-clause-repeated

@@ -10,8 +10,8 @@ returns-then-odd g c =
     let k = c.args.place in
     let inside : k < length w = omega (arith, c.told-tuple, c.requires.place) in
     let edges : c.without_edge.result ≡ set_number (face_without w k) =
-        face_set w k c.args.set c.without_edge.result c.requires.distinct inside c.requires.set c.without_edge.ensures.same
-            c.without_edge.ensures.others in
+    face_set w k c.args.set c.without_edge.result c.requires.distinct inside c.requires.set c.without_edge.ensures.same
+    c.without_edge.ensures.others in
     let sign : sign_without w k ≡ negsuc 0 = sign_at_odd w k c.requires.distinct inside (rw (c.requires.parity, c.count_below.ensures) at c.if-odd.true) in
     rw (edges, sign) refl
 
@@ -21,7 +21,7 @@ returns-else-odd g c =
     let k = c.args.place in
     let inside : k < length w = omega (arith, c.told-tuple, c.requires.place) in
     let edges : c.without_edge.result ≡ set_number (face_without w k) =
-        face_set w k c.args.set c.without_edge.result c.requires.distinct inside c.requires.set c.without_edge.ensures.same
-            c.without_edge.ensures.others in
+    face_set w k c.args.set c.without_edge.result c.requires.distinct inside c.requires.set c.without_edge.ensures.same
+    c.without_edge.ensures.others in
     let sign : sign_without w k ≡ pos 1 = sign_at_even w k c.requires.distinct inside (rw (c.requires.parity, c.count_below.ensures) at c.if-odd.false) in
     rw (edges, sign) refl

@@ -12,7 +12,7 @@ loop-axis-preserved g c = (
   length-set _ _ _ ∙ c.loop-axis.invariant.0,
   written_more c.loop-axis.step c.loop-axis.axis _ (λ k. get_or c.args.to.now k (pos 0) -ℤ get_or c.args.from.now k (pos 0)) (omega arith)
       (difference_back 32 32 (get_or c.args.to.now c.loop-axis.axis (pos 0)) (get_or c.args.from.now c.loop-axis.axis (pos 0)) (lit< tt)
-           (c.requires.to_small c.loop-axis.axis (pos 0) (omega arith)) (c.requires.from_small c.loop-axis.axis (pos 0) (omega arith)))
+      (c.requires.to_small c.loop-axis.axis (pos 0) (omega arith)) (c.requires.from_small c.loop-axis.axis (pos 0) (omega arith)))
       c.loop-axis.invariant.1,
 )
 
@@ -26,4 +26,4 @@ returns-clause-step g c =
 pub returns-clause-small : goal.returns-clause-small
 returns-clause-small g c =
     subst (λ (xs : List ℤ). AreSmall 64 xs) (sym (returns-clause-step g c))
-        (AreSmall-minus 32 32 c.args.to.now c.args.from.now c.requires.to_small c.requires.from_small)
+    (AreSmall-minus 32 32 c.args.to.now c.args.from.now c.requires.to_small c.requires.from_small)

@@ -23,4 +23,4 @@ returns g c = λ kind s suits.
     let first : IsFirst facets e 0 f = record { low = r.from; inside = r.inside; found = r.found; before = r.before } in
     let second : IsFirst facets e (f + 1) h = record { low = t.from; inside = t.inside; found = t.found; before = t.before } in
     c.leads_across.ensures kind f h (λ k d n. s.tuples k d n) (pair_suits kind e f h facets ws s suits.is_edge first second) suits
-        ∙ path_of_pair kind e f h facets ws s suits.is_edge first second
+    ∙ path_of_pair kind e f h facets ws s suits.is_edge first second

@@ -15,13 +15,13 @@ returns-then-not-has_path g c = λ kind label.
     let e = c.loop-edge.edge in
     let three : 3 ≡ g.row.D = omega arith in
     subst
-        (λ (d : ℕ).
-             SuitsFacets kind d facets ws → Suits kind d label bipolar ws → rule_edges kind d label ws ≡ true → rule_faces kind d ws ≡ true
-                 → false ≡ rule_path kind d label ws)
-        three
+    (λ (d : ℕ).
+    SuitsFacets kind d facets ws → Suits kind d label bipolar ws → rule_edges kind d label ws ≡ true → rule_faces kind d ws ≡ true
+    → false ≡ rule_path kind d label ws)
+    three
     (λ s suits edges faces.
     path_fails kind label bipolar e ws suits (sym c.if-has_member.ensures)
-        (c.if-not-has_path.ensures kind s (edge_suits kind label bipolar e ws suits edges faces (sym c.if-has_member.ensures))))
+    (c.if-not-has_path.ensures kind s (edge_suits kind label bipolar e ws suits edges faces (sym c.if-has_member.ensures))))
 
 pub loop-edge-preserved : goal.loop-edge-preserved
 loop-edge-preserved g c = λ kind label s suits edges faces e below member.
@@ -44,9 +44,9 @@ returns g c = λ kind label.
     let ws = c.args.tuples.now in
     let three : 3 ≡ g.row.D = omega arith in
     subst
-        (λ (d : ℕ).
-             SuitsFacets kind d facets ws → Suits kind d label bipolar ws → rule_edges kind d label ws ≡ true → rule_faces kind d ws ≡ true
-                 → true ≡ rule_path kind d label ws)
-        three
+    (λ (d : ℕ).
+    SuitsFacets kind d facets ws → Suits kind d label bipolar ws → rule_edges kind d label ws ≡ true → rule_faces kind d ws ≡ true
+    → true ≡ rule_path kind d label ws)
+    three
     (λ s suits edges faces.
-         path_passes kind label bipolar ws suits (λ e below member. c.loop-edge.invariant kind label s suits edges faces e (omega arith) member))
+    path_passes kind label bipolar ws suits (λ e below member. c.loop-edge.invariant kind label s suits edges faces e (omega arith) member))

@@ -8,5 +8,5 @@ use Rattle.path_rule.proofs.rule.keeps_path.Given as goal
 abbrev pub invariant-loop-edge : goal.invariant-loop-edge
 invariant-loop-edge g l =
     (kind : Kind) (label : ℕ) → SuitsFacets kind 3 l.facets l.tuples → Suits kind 3 label l.bipolar l.tuples → rule_edges kind 3 label l.tuples ≡ true
-        → rule_faces kind 3 l.tuples ≡ true
+    → rule_faces kind 3 l.tuples ≡ true
     → (e : ℕ) → e < l.edge → is_set l.bipolar e ≡ true → is_path kind 3 e l.tuples ≡ true

@@ -14,4 +14,4 @@ returns-then-third-other g c =
 pub returns : goal.returns
 returns g c =
     third_none c.args.edge c.args.other c.args.tuple.now c.loop-third.invariant.edge c.loop-third.invariant.other
-        (λ k h. c.loop-third.invariant.before k (omega arith))
+    (λ k h. c.loop-third.invariant.before k (omega arith))

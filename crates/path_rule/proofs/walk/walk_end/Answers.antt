@@ -11,7 +11,7 @@ loop-init g c =
     record {
       walk =
           λ shares free.
-              subst (λ (n : ℕ). IsWalk e start ws n start None 0) (sym c.triangle_count-end.ensures) (walk_begins e start ws c.requires.apart free);
+          subst (λ (n : ℕ). IsWalk e start ws n start None 0) (sym c.triangle_count-end.ensures) (walk_begins e start ws c.requires.apart free);
       small = λ m h all. h;
       met = λ h. absurd (omega arith);
     }
@@ -24,7 +24,7 @@ returns-in_err-triangle-clause-end g c = λ shares free.
     let none : c.from_residual.result ≡ None = search rules in
     subst (λ (o : Option ℕ). TellsEnd e start ws o) (sym none)
     (walk_stuck e start ws c.triangle_count-end.result c.loop.face c.loop.present c.loop.counter shares (c.loop.invariant.walk shares free)
-         (omega arith) c.in_err-triangle.ensures.none)
+    (omega arith) c.in_err-triangle.ensures.none)
 
 pub loop-preserved : goal.loop-preserved
 loop-preserved g c =
@@ -34,7 +34,7 @@ loop-preserved g c =
     record {
       walk = λ shares free.
           walk_goes e c.args.start ws c.triangle_count-end.result c.loop.face c.loop.present c.loop.counter c.in_ok-triangle.triangle
-              c.in_ok-triangle.third shares
+          c.in_ok-triangle.third shares
           (c.loop.invariant.walk shares free) next;
       small = λ m h all. next_small e c.loop.face c.loop.present c.in_ok-triangle.triangle c.in_ok-triangle.third m ws next all;
       met = λ h m all. next_small e c.loop.face c.loop.present c.in_ok-triangle.triangle c.in_ok-triangle.third m ws next all;
@@ -43,7 +43,7 @@ loop-preserved g c =
 pub returns-clause-end : goal.returns-clause-end
 returns-clause-end g c = λ shares free.
     walk_ends c.args.edge c.args.start c.args.tuples.now c.triangle_count-end.result c.loop.face c.loop.present c.loop.counter
-        (c.loop.invariant.walk shares free) (omega arith)
+    (c.loop.invariant.walk shares free) (omega arith)
 
 pub returns-clause-met : goal.returns-clause-met
 returns-clause-met g c = λ h. c.loop.invariant.met (omega (arith, h, c.triangle_count-end.ensures))

@@ -12,7 +12,7 @@ returns-then-dot-le0 g c =
     let inside : i < length w = omega (arith, c.requires.0, c.loop-edge-test.true) in
     let is : side_turn c.args.self.now g.row.D c.args.label w (get_or w i 0) ≡ c.dot.result =
     edge_turn c.args.self.now g.row.D c.args.label w (get_or w i 0) c.vertices.result c.hyper-plane.result.normal c.ascent.result c.dot.result
-        c.kind-kind.ensures.cell c.requires (c.requires.1 i 0 inside)
+    c.kind-kind.ensures.cell c.requires (c.requires.1 i 0 inside)
     c.vertices.ensures.midpoints c.hyper-plane.ensures.normal c.ascent.ensures.step c.dot.ensures in
     turned_fails c.args.self.now g.row.D c.args.label w i c.dot.result inside is
     (ap (λ (z : ℤ). int_le z (pos 0)) (sym (to_z-of_z w64 c.dot.result (record { sfits = c.dot.type_inv }))) ∙ c.if-dot-le0.true)
@@ -24,7 +24,7 @@ loop-edge-preserved g c =
     let inside : i < length w = omega (arith, c.requires.0, c.loop-edge-test.true) in
     let is : side_turn c.args.self.now g.row.D c.args.label w (get_or w i 0) ≡ c.dot.result =
     edge_turn c.args.self.now g.row.D c.args.label w (get_or w i 0) c.vertices.result c.hyper-plane.result.normal c.ascent.result c.dot.result
-        c.kind-kind.ensures.cell c.requires (c.requires.1 i 0 inside)
+    c.kind-kind.ensures.cell c.requires (c.requires.1 i 0 inside)
     c.vertices.ensures.midpoints c.hyper-plane.ensures.normal c.ascent.ensures.step c.dot.ensures in
     turned_more c.args.self.now g.row.D c.args.label w i c.dot.result inside is
     (ap (λ (z : ℤ). int_le z (pos 0)) (sym (to_z-of_z w64 c.dot.result (record { sfits = c.dot.type_inv }))) ∙ c.if-dot-le0.false) c.loop-edge.invariant

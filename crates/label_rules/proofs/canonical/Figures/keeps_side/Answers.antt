@@ -7,7 +7,7 @@ use Rattle.label_rules.proofs.canonical.Figures.keeps_side.Goals as goal
 pub returns-then-not-is_turned : goal.returns-then-not-is_turned
 returns-then-not-is_turned g c = λ keeps.
     side_fails c.args.self.now g.row.D c.args.label c.args.tuples.now c.loop-tuple.tuple-index c.tuple-item.result c.loop-tuple-test.true
-        c.tuple-item.is c.if-not-is_turned.ensures keeps
+    c.tuple-item.is c.if-not-is_turned.ensures keeps
 
 pub returns : goal.returns
 returns g c = λ keeps.

@@ -1,6 +1,6 @@
 use Rattle.std.proofs.Common.{◌≡◌, ℕ, ◌<◌, [], map, pos, slice_index_or, length}
 use Rattle.iso_model.specs.Cells.{corner_point}
-use Rattle.label_rules.proofs.lists.corners_of.Given as goal
+use Rattle.label_rules.proofs.cell_lists.corners_of.Given as goal
 
 -- the corners so far
 abbrev pub invariant-loop-corner : goal.invariant-loop-corner

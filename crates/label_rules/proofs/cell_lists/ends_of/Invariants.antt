@@ -1,6 +1,6 @@
 use Rattle.std.proofs.Common.{◌≡◌, ℕ, ◌<◌, slice_index_or, length}
 use Rattle.iso_model.specs.Cells.{edge_ends}
-use Rattle.label_rules.proofs.lists.ends_of.Given as goal
+use Rattle.label_rules.proofs.cell_lists.ends_of.Given as goal
 
 -- the ends so far
 abbrev pub invariant-loop-edge : goal.invariant-loop-edge

@@ -1,7 +1,7 @@
 use Rattle.std.proofs.Common.{◌≡◌, ℕ, ◌<◌, slice_index, length}
 use Rattle.iso_model.specs.Cells.{edge_in_facet}
 use Rattle.lists.specs.Bits.{is_set}
-use Rattle.label_rules.proofs.lists.facets_of.Given as goal
+use Rattle.label_rules.proofs.cell_lists.facets_of.Given as goal
 
 -- the facets so far
 abbrev pub invariant-loop-facet : goal.invariant-loop-facet

@@ -1,6 +1,6 @@
 use Rattle.std.proofs.Common.{◌≡◌, ℕ, ◌<◌, [], map, pos, slice_index_or, length}
 use Rattle.iso_model.specs.Cells.{edge_midpoint}
-use Rattle.label_rules.proofs.lists.midpoints_of.Given as goal
+use Rattle.label_rules.proofs.cell_lists.midpoints_of.Given as goal
 
 -- the midpoints so far
 abbrev pub invariant-loop-edge : goal.invariant-loop-edge
