@@ -43,7 +43,7 @@ exact_quotient x g d =
     ∙ mul-comm (quot_z x (pos g)) (pos g)
 
 -- what the division of an i64 by a cast u64 gives
-pub quotient_is : (x : ℤ) (g : ℕ) → 0 < g → g ≤ 2 ^ 40 → g ∣ nat_abs x → FitsSigned w64 x
+pub quotient_is : (x : ℤ) (g : ℕ) → 0 < g → g ≤ 2 ^ 62 → g ∣ nat_abs x → FitsSigned w64 x
     → x ≡ pos g *ℤ to_z w64 (of_z w64 (quot_z (to_z w64 (of_z w64 x)) (to_z w64 g)))
 quotient_is x g p s d f =
     let above : pos 0 <ℤ pos g = omega (arith, ints) in

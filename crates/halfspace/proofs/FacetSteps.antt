@@ -128,7 +128,7 @@ each_tight h points (i ∷ is) b t =
     (has_passing _ (length points) i (All-head (λ i. i < length points) i is b) (is-same_int _ _ t.0))
     (each_tight h points is (All-tail (λ i. i < length points) i is b) t.1)
 
-normal_wide : (d : ℕ) → 2 ≤ d → (ps : List (List ℤ)) → length ps ≡ d → length (hyper ps).normal ≡ d
+pub normal_wide : (d : ℕ) → 2 ≤ d → (ps : List (List ℤ)) → length ps ≡ d → length (hyper ps).normal ≡ d
 normal_wide d least [] e = absurd (omega arith)
 normal_wide d least (p ∷ ps) e = length-cofactors (map (λ q. minus q p) ps) ∙ ap (λ (n : ℕ). n + 1) (length-map ps (λ q. minus q p)) ∙ omega arith
 

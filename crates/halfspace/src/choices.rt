@@ -57,13 +57,13 @@ fn has_normal<const D: usize>(normal: &[i64; D]) -> bool
     false
 }
 
-// Each point has D coordinates, as its type says.
+// A point has D coordinates, as its type says.
 fn know_length<const D: usize>(point: &[i32; D])
     ensures { length point.now ≡ D }
 {}
 
-// The same of each of the points.
-fn know_lengths<const D: usize>(points: &[[i32; D]])
+/// Tells a proof that each of the points has D coordinates, as their type says.
+pub fn know_lengths<const D: usize>(points: &[[i32; D]])
     ensures { All (λ p. length p ≡ D) points.now }
 {
     for point in points {
@@ -71,8 +71,8 @@ fn know_lengths<const D: usize>(points: &[[i32; D]])
     }
 }
 
-// The points with these numbers.
-fn points_at<const D: usize>(points: &[[i32; D]], choice: &[usize; D]) -> [[i32; D]; D]
+/// The points with these numbers, each of which is the number of a point. D is at most 4.
+pub fn points_at<const D: usize>(points: &[[i32; D]], choice: &[usize; D]) -> [[i32; D]; D]
     requires few { D ≤ 4 }
     requires inside { All (λ i. i < length points.now) choice.now }
     ensures { result ≡ members points.now choice.now }
@@ -130,8 +130,11 @@ fn facet_through<const D: usize>(points: &[[i32; D]], choice: &[usize; D]) -> Op
     Some(tight(&half, points))
 }
 
-// Adds the facet through the chosen points, if there is one and it is not known.
-fn consider<const D: usize>(
+/// Adds the set of the facet through D chosen points, where they span a hyperplane, all points lie on one side of it,
+/// and no set has them all. Each set that is there is that of a facet, and none is there twice. The conditions on the
+/// points are those of `plain_facets`, and each chosen number is that of a point. The only error is want of memory; no
+/// set is lost.
+pub fn consider<const D: usize>(
     points: &[[i32; D]],
     choice: &[usize; D],
     facets: &mut Vec<u64>,

@@ -1,7 +1,8 @@
 //! Half-spaces of small whole numbers, and the facets of a finite set of points by the plain way: each D of the points
 //! are tried, and the half-space through them is kept where all points lie on one side of it.
 //!
-//! A set of points of a list is written as a number whose bit i is set where point i is a member.
+//! A set of points of a list is written as a number whose bit i is set where point i is a member. `consider` is one step
+//! of the plain way, for callers who know which choices of points are enough.
 //!
 //! For proofs above this crate: `specs/Choices` has `AreFacetNumbers`, which `plain_facets` ensures of its answer. Of the files in
 //! `proofs`, `FacetFound` says that a facet with D points that span a hyperplane is the tight set of the half-space
@@ -17,7 +18,7 @@ mod choices;
 mod lowest_terms;
 
 pub use boundary::{slack, tight};
-pub use choices::plain_facets;
+pub use choices::{consider, know_lengths, plain_facets, points_at};
 pub use lowest_terms::reduce;
 
 #[cfg(test)]
@@ -61,6 +62,20 @@ mod tests {
             bound: -1099511627776,
         };
         assert_eq!(rt; slack(&steep, &[64; 4]), -1103806595072);
+    }
+
+    #[test]
+    fn facets_through_chosen_points(rt: HostRuntime) {
+        // a square with its centre
+        let square = [[0, 0], [2, 0], [0, 2], [2, 2], [1, 1]];
+        know_lengths(&square);
+        assert_eq!(rt; points_at(&square, &[3, 1]), [[2, 2], [2, 0]]);
+        let mut facets = Vec::new(rt.alloc());
+        // a side, a diagonal, a point twice, the side again, and another side
+        for choice in [[0, 1], [1, 2], [3, 3], [1, 0], [3, 2]] {
+            consider(&square, &choice, &mut facets).expect(&rt, "memory");
+        }
+        assert_eq!(rt; facets.as_slice(), [3, 12].as_slice());
     }
 
     #[test]

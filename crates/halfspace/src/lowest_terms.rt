@@ -24,10 +24,10 @@ fn common_divisor(a: u64, b: u64) -> u64
 
 // The greatest common divisor of the bound and the coefficients.
 fn divisor_of<const D: usize>(bound: i64, normal: &[i64; D]) -> u64
-    requires constant { IsSmall (2 ^ 40) bound }
-    requires coefficients { AreSmall (2 ^ 40) normal.now }
+    requires constant { IsSmall (2 ^ 62) bound }
+    requires coefficients { AreSmall (2 ^ 62) normal.now }
     ensures greatest { IsGreatestDivisor (bound ∷ normal.now) result }
-    ensures size { result ≤ 2 ^ 40 }
+    ensures size { result ≤ 2 ^ 62 }
 {
     let mut divisor = bound.unsigned_abs();
     for coefficient in normal {
@@ -39,7 +39,7 @@ fn divisor_of<const D: usize>(bound: i64, normal: &[i64; D]) -> u64
 // The quotient of a number by a divisor of it.
 fn quotient(number: i64, divisor: u64) -> i64
     requires not_zero { 0 < divisor }
-    requires small { divisor ≤ 2 ^ 40 }
+    requires small { divisor ≤ 2 ^ 62 }
     requires divides { divisor ∣ nat_abs number }
     ensures { number ≡ pos divisor *ℤ result }
 {
@@ -47,10 +47,10 @@ fn quotient(number: i64, divisor: u64) -> i64
 }
 
 /// The half-space with all coefficients and the bound divided by their greatest common divisor. A half-space whose
-/// numbers are all zero stays. Each number is at most 2^40 in size.
+/// numbers are all zero stays. Each number is at most 2^62 in size.
 pub fn reduce<const D: usize>(half: HalfSpace<D>) -> HalfSpace<D>
-    requires coefficients { AreSmall (2 ^ 40) half.normal }
-    requires constant { IsSmall (2 ^ 40) half.bound }
+    requires coefficients { AreSmall (2 ^ 62) half.normal }
+    requires constant { IsSmall (2 ^ 62) half.bound }
     ensures { IsReduced half.entry.normal half.entry.bound result.normal result.bound }
 {
     let divisor = divisor_of(half.bound, &half.normal);

@@ -10,10 +10,10 @@ use Rattle.halfspace.proofs.lowest_terms.divisor_of.Goals as goal
 
 pub loop-coefficient-init : goal.loop-coefficient-init
 loop-coefficient-init g c =
-    let back = small-back (2 ^ 40) c.args.bound (lit< tt) c.requires.constant in
+    let back = small-back (2 ^ 62) c.args.bound (lit< tt) c.requires.constant in
     let v : c.unsigned_abs-divisor.result ≡ nat_abs c.args.bound =
-    c.unsigned_abs-divisor.ensures.value ∙ ap nat_abs (small-back (2 ^ 40) c.args.bound (lit< tt) c.requires.constant) in
-    let s : IsSmall (2 ^ 40) c.args.bound = c.requires.constant in (
+    c.unsigned_abs-divisor.ensures.value ∙ ap nat_abs (small-back (2 ^ 62) c.args.bound (lit< tt) c.requires.constant) in
+    let s : IsSmall (2 ^ 62) c.args.bound = c.requires.constant in (
       subst (λ (b : ℤ). IsGreatestDivisor (b ∷ []) c.unsigned_abs-divisor.result) (sym back)
           (subst (λ (r : ℕ). IsGreatestDivisor (c.args.bound ∷ []) r) (sym v) (greatest_of_one c.args.bound)),
       omega arith,
@@ -25,8 +25,8 @@ loop-coefficient-preserved g c =
     let wide : c.loop-coefficient.coefficient-index < length c.args.normal.now = omega arith in
     let v : c.unsigned_abs.result ≡ nat_abs x =
     c.unsigned_abs.ensures.value
-    ∙ ap nat_abs (AreSmall-back (2 ^ 40) c.args.normal.now (lit< tt) c.requires.coefficients c.loop-coefficient.coefficient-index) in
-    let s : IsSmall (2 ^ 40) x = AreSmall-get_or (2 ^ 40) c.args.normal.now c.loop-coefficient.coefficient-index c.requires.coefficients in (
+    ∙ ap nat_abs (AreSmall-back (2 ^ 62) c.args.normal.now (lit< tt) c.requires.coefficients c.loop-coefficient.coefficient-index) in
+    let s : IsSmall (2 ^ 62) x = AreSmall-get_or (2 ^ 62) c.args.normal.now c.loop-coefficient.coefficient-index c.requires.coefficients in (
       subst (λ (xs : List ℤ). IsGreatestDivisor (to_z w64 (of_z w64 c.args.bound) ∷ xs) c.common_divisor-divisor.result)
           (sym (take_more c.args.normal.now c.loop-coefficient.coefficient-index (pos 0) wide))
           (greatest_more (to_z w64 (of_z w64 c.args.bound) ∷ take c.loop-coefficient.coefficient-index c.args.normal.now) x c.loop-coefficient.divisor
@@ -38,6 +38,6 @@ loop-coefficient-preserved g c =
 
 pub returns-clause-greatest : goal.returns-clause-greatest
 returns-clause-greatest g c =
-    subst (λ (b : ℤ). IsGreatestDivisor (b ∷ c.args.normal.now) c.loop-coefficient.divisor) (small-back (2 ^ 40) c.args.bound (lit< tt) c.requires.constant)
+    subst (λ (b : ℤ). IsGreatestDivisor (b ∷ c.args.normal.now) c.loop-coefficient.divisor) (small-back (2 ^ 62) c.args.bound (lit< tt) c.requires.constant)
     (subst (λ (xs : List ℤ). IsGreatestDivisor (to_z w64 (of_z w64 c.args.bound) ∷ xs) c.loop-coefficient.divisor)
     (take_all c.loop-coefficient.coefficient-index c.args.normal.now (omega arith)) c.loop-coefficient.invariant.0)

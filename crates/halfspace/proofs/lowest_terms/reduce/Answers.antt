@@ -14,8 +14,8 @@ abbrev Greatest : ℤ → List ℤ → ℕ → Type 0
 Greatest b n g = IsGreatestDivisor (b ∷ n) g
 
 -- the bound is passed on as it is
-same_bound : (b : ℤ) (n : List ℤ) (g : ℕ) → IsSmall (2 ^ 40) b → Greatest (to_z w64 (of_z w64 b)) n g → Greatest b n g
-same_bound b n g s h = subst (λ (x : ℤ). Greatest x n g) (small-back (2 ^ 40) b (lit< tt) s) h
+same_bound : (b : ℤ) (n : List ℤ) (g : ℕ) → IsSmall (2 ^ 62) b → Greatest (to_z w64 (of_z w64 b)) n g → Greatest b n g
+same_bound b n g s h = subst (λ (x : ℤ). Greatest x n g) (small-back (2 ^ 62) b (lit< tt) s) h
 
 pub returns-then-divisor-eq0 : goal.returns-then-divisor-eq0
 returns-then-divisor-eq0 g c = zero_reduced c.args.half.normal c.args.half.bound c.divisor_of-divisor.result c.if-divisor-eq0.true
@@ -23,13 +23,13 @@ returns-then-divisor-eq0 g c = zero_reduced c.args.half.normal c.args.half.bound
 
 pub quotient-requires-clause-divides : goal.quotient-requires-clause-divides
 quotient-requires-clause-divides g c =
-    subst (λ (x : ℤ). c.divisor_of-divisor.result ∣ nat_abs x) (sym (AreSmall-back (2 ^ 40) c.args.half.normal (lit< tt) c.requires.coefficients c.loop-i.i))
+    subst (λ (x : ℤ). c.divisor_of-divisor.result ∣ nat_abs x) (sym (AreSmall-back (2 ^ 62) c.args.half.normal (lit< tt) c.requires.coefficients c.loop-i.i))
     (divides_at c.args.half.normal c.args.half.bound c.divisor_of-divisor.result c.loop-i.i (omega arith)
     (same_bound c.args.half.bound c.args.half.normal c.divisor_of-divisor.result c.requires.constant c.divisor_of-divisor.ensures.greatest))
 
 pub quotient-requires-2-clause-divides : goal.quotient-requires-2-clause-divides
 quotient-requires-2-clause-divides g c =
-    subst (λ (x : ℤ). c.divisor_of-divisor.result ∣ nat_abs x) (sym (small-back (2 ^ 40) c.args.half.bound (lit< tt) c.requires.constant))
+    subst (λ (x : ℤ). c.divisor_of-divisor.result ∣ nat_abs x) (sym (small-back (2 ^ 62) c.args.half.bound (lit< tt) c.requires.constant))
     (All-head (λ x. c.divisor_of-divisor.result ∣ nat_abs x) c.args.half.bound c.args.half.normal
     (same_bound c.args.half.bound c.args.half.normal c.divisor_of-divisor.result c.requires.constant c.divisor_of-divisor.ensures.greatest).divides)
 
@@ -39,7 +39,7 @@ loop-i-preserved g c =
       length-set _ _ _ ∙ c.loop-i.invariant.0,
       below_more _ _
           (λ k q. let ne : k ≢ c.loop-i.i = omega arith in rw get_or-set_other (c.loop-i.invariant.1 k q))
-          (sym (AreSmall-back (2 ^ 40) c.args.half.normal (lit< tt) c.requires.coefficients c.loop-i.i) ∙ c.quotient.ensures
+          (sym (AreSmall-back (2 ^ 62) c.args.half.normal (lit< tt) c.requires.coefficients c.loop-i.i) ∙ c.quotient.ensures
           ∙ ap (λ (z : ℤ). pos c.divisor_of-divisor.result *ℤ z)
           (sym (get_or-set_same c.loop-i.normal c.loop-i.i (to_z w64 (of_z w64 c.quotient.result)) (pos 0) (omega arith) ∙ back))),
     )
@@ -49,7 +49,7 @@ returns g c = record {
   divisor = c.divisor_of-divisor.result;
   greatest = same_bound c.args.half.bound c.args.half.normal c.divisor_of-divisor.result c.requires.constant c.divisor_of-divisor.ensures.greatest;
   coefficients = quotients_same c.args.half.normal c.loop-i.normal c.divisor_of-divisor.result (omega arith) (λ k p. c.loop-i.invariant.1 k (omega arith));
-  constant = sym (small-back (2 ^ 40) c.args.half.bound (lit< tt) c.requires.constant) ∙ c.quotient-2.ensures
+  constant = sym (small-back (2 ^ 62) c.args.half.bound (lit< tt) c.requires.constant) ∙ c.quotient-2.ensures
       ∙ ap (λ (z : ℤ). pos c.divisor_of-divisor.result *ℤ z) (sym (to_z-of_z w64 c.quotient-2.result (record { sfits = c.quotient-2.type_inv })));
   stays = λ z. absurd (c.if-divisor-eq0.false z);
 }
