@@ -1,0 +1,6 @@
+pub mod MovedBits
+pub mod OrderChecks
+pub mod ExchangeBits
+pub mod ExchangeChecks
+pub mod LeastLabels
+pub mod MovedEdges
