@@ -4,3 +4,5 @@ pub mod ExchangeBits
 pub mod ExchangeChecks
 pub mod LeastLabels
 pub mod MovedEdges
+pub mod InverseMoves
+pub mod LabelSteps

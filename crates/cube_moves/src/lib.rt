@@ -13,4 +13,4 @@ mod tests;
 mod words;
 
 pub use least::least_label;
-pub use moves::{Move, move_corner, move_edge};
+pub use moves::{Move, move_corner, move_edge, move_label};

@@ -4,7 +4,7 @@ ghost use Rattle.std.specs.Prelude.{◌≡◌, ◌+◌, ◌%◌, ◌^◌, ◌<�
 ghost use Rattle.std.specs.Int.{bit_at};
 ghost use Rattle.iso_model.specs.declared.Kind.{Kind};
 ghost use Rattle.iso_model.specs.Cells.{edge_count, edge_between};
-ghost use Rattle.iso_model.specs.Moves.{IsMove, move_corner, move_edge};
+ghost use Rattle.iso_model.specs.Moves.{IsMove, Carries, move_corner, move_edge};
 ghost use Rattle.cell_lattice.specs.Dimensions.{IsDimension};
 ghost use Rattle.cube_moves.specs.Joined.{IsJoined};
 
@@ -67,6 +67,23 @@ pub fn move_edge<const D: usize>(by: &Move<D>, edge: u8) -> u8
     let from = move_corner(by, first);
     let to = move_corner(by, second);
     edge_of::<D>(from.min(to), from.max(to))
+}
+
+/// The label to which a move carries a label: its bit `move_corner(k)` is set exactly where bit k of the label is. D is 2, 3
+/// or 4, and the label is below 2^(2^D).
+pub fn move_label<const D: usize>(by: &Move<D>, label: u32) -> u32
+    requires dimension { IsDimension D }
+    requires is_move { IsMove D (record { axes = by.now.axes; flips = by.now.flips }) }
+    requires label { label < 2 ^ (2 ^ D) }
+    ensures { Carries D (record { axes = by.now.axes; flips = by.now.flips }) label result }
+{
+    let mut moved = 0;
+    for corner in 0..1u8 << D {
+        if (label >> corner) & 1 == 1 {
+            moved |= 1 << move_corner(by, corner);
+        }
+    }
+    moved
 }
 
 // The edges of the hypercube, by their two corners, the smaller first. The edges of the square and of the cube have the
