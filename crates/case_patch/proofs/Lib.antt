@@ -10,3 +10,5 @@ pub mod SideTurnRows
 pub mod AppendedLists
 pub mod Narrow
 pub mod FacetMembers
+pub mod MovedTurns
+pub mod MovedFacets

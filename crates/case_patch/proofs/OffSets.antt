@@ -52,7 +52,7 @@ not_any {X} p (x ∷ xs) = ap (λ (b : Bool). not (p x) && b) (not_any p xs) ∙
 -- ---- a set within another, both given by tests
 
 -- a test that the members below n of a set that is tested for are its members
-has_is_test : (q : ℕ → Bool) (n i : ℕ) → i < n → has (filter q (numbers n)) i ≡ q i
+pub has_is_test : (q : ℕ → Bool) (n i : ℕ) → i < n → has (filter q (numbers n)) i ≡ q i
 has_is_test q n i h = same_tests (has (filter q (numbers n)) i) (q i) (λ e. has_test q n i e) (λ e. has_passing q n i h e)
 
 within_test : (p q : ℕ → Bool) (n : ℕ) → list_all (has (filter q (numbers n))) (filter p (numbers n)) ≡ list_all q (filter p (numbers n))
