@@ -12,3 +12,4 @@ pub mod Narrow
 pub mod FacetMembers
 pub mod MovedTurns
 pub mod MovedFacets
+pub mod MovedPoints

@@ -1,3 +1,4 @@
 pub mod BoundarySets
 pub mod Tuples
 pub mod SideRows
+pub mod MovedPoints

@@ -1,0 +1,21 @@
+-- The points of a labelling of a cube by their numbers, and where a move carries them.
+use Rattle.std.specs.Prelude.{ℕ, ◌+◌, ◌-◌, nat_lt, nat_eq, List, length, slice_index, if◌then◌else◌}
+use Rattle.std.specs.List.{position_or_len}
+use Rattle.iso_model.specs.declared.Kind.TheVariants.{Cube}
+use Rattle.iso_model.specs.Entries.{label_edges, label_corners}
+use Rattle.iso_model.specs.Moves.{Move, move_corner, move_edge}
+
+-- the place of a number in a list
+abbrev pub place : List ℕ → ℕ → ℕ
+place xs x = position_or_len (nat_eq x) xs
+
+-- the number of the point to which a move carries point i, where the points are those of some edges and then of some corners
+abbrev pub carried_among : ℕ → Move → List ℕ → List ℕ → List ℕ → List ℕ → ℕ → ℕ
+carried_among d by es ks fs ls i =
+    if nat_lt i (length es) then place fs (move_edge d by (slice_index es i))
+    else length fs + place ls (move_corner d by (slice_index ks (i - length es)))
+
+-- the same of the points of a labelling and of the one to which the move carries it
+abbrev pub carried_point : ℕ → Move → ℕ → ℕ → ℕ → ℕ
+carried_point d by label other i =
+    carried_among d by (label_edges Cube d label) (label_corners Cube d label) (label_edges Cube d other) (label_corners Cube d other) i
