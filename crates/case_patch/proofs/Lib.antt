@@ -13,3 +13,5 @@ pub mod FacetMembers
 pub mod MovedTurns
 pub mod MovedFacets
 pub mod MovedPoints
+pub mod CarriedFacets
+pub mod CubeLabels

@@ -1,16 +1,16 @@
 -- Facets of points that are moved by an order of the coordinates with flips: the moved facets.
-use Rattle.std.specs.Prelude.{◌≡◌, ◌≢◌, ℕ, zero, suc, ◌+◌, ◌*◌, ◌<◌, ◌≤◌, ℤ, pos, negsuc, ◌+ℤ◌, ◌*ℤ◌, ◌-ℤ◌, neg_ℤ, ◌≤ℤ◌, Bool, true, false, if◌then◌else◌, List, [], ◌∷◌, ◌++◌, map, filter, length, slice_index, slice_index_or, All, Any, Contains, IsTrue}
+use Rattle.std.specs.Prelude.{◌≡◌, ℕ, ◌<◌, ℤ, pos, ◌+ℤ◌, ◌*ℤ◌, ◌-ℤ◌, ◌≤ℤ◌, Bool, true, false, if◌then◌else◌, List, [], ◌∷◌, ◌++◌, map, filter, length, slice_index, slice_index_or, All, Contains, IsTrue}
 use Rattle.std.proofs.Common.{refl, sym, ap, ◌∙◌, subst, arith, length-append}
 use Rattle.std.proofs.lemmas.Int.{ints}
-use Rattle.std.proofs.lemmas.List.{length-map, get_or-map, map-append}
+use Rattle.std.proofs.lemmas.List.{length-map, map-append}
 use Rattle.std.proofs.lemmas.List.Elements.{All-nil, All-cons, All-head, All-tail, All-append, All-map}
 use Rattle.std.proofs.lemmas.List.FromFn.{length-map-range_with_len}
-use Rattle.polynomials.proofs.Ring.{Expr, var, con, ◌⊕◌, ◌⊖◌, ◌⊗◌, neg, value, normal, ring}
+use Rattle.polynomials.proofs.Ring.{var, con, ◌⊖◌, ◌⊗◌, neg, value, normal, ring}
 use Rattle.polynomials.proofs.SmallLaws.{same_ints}
 use Rattle.iso_model.specs.Orders.{numbers, orders, has}
 use Rattle.iso_model.specs.Cells.{is_set}
 use Rattle.iso_model.specs.Moves.{Move}
-use Rattle.iso_model.specs.Turns.{turn, total, signed, minus, dot, HalfSpace, HasNormal, Holds, IsTight, tight_set, slack, same_int, Spans, rows_to}
+use Rattle.iso_model.specs.Turns.{turn, total, signed, minus, dot, HalfSpace, HasNormal, Holds, slack, same_int, Spans, rows_to}
 use Rattle.iso_model.specs.Hulls.{IsFacet, members}
 use Rattle.iso_model.proofs.Deciding.{below_contained, each-from_All, All-from_each, any_default}
 use Rattle.iso_model.proofs.KeptLaws.{filter-same}
@@ -23,7 +23,7 @@ use Rattle.cell_lattice.specs.Dimensions.{IsDimension, in_each_dimension}
 use Rattle.cube_moves.proofs.OrderChecks.{axis-below, back}
 use Rattle.cube_moves.proofs.InverseMoves.{order_turns_back}
 use Rattle.halfspace.proofs.Bases.{length-members}
-use Rattle.halfspace.proofs.SetNumbers.{has_test, has_passing, has_below}
+use Rattle.halfspace.proofs.SetNumbers.{has_below}
 use Rattle.case_patch.proofs.OffSets.{has_is_test}
 use Rattle.case_patch.proofs.MovedTurns.{map_below, places_of, at_place, value-total, turned, turned_spans}
 
@@ -180,8 +180,7 @@ moved_normal d is by o h ln n =
     let in_d : n.0 < d = omega (arith, ln, n.2) in
     let p : ℕ = slice_index (back d by.axes) n.0 in
     let in_p : p < d = turns.below n.0 in_d in
-    let c : slice_index_or h.normal n.0 (pos 0) ≡ n.1 = any_default h.normal n.0 (pos 0) n.1 n.2 ∙ n.3 in
-    (
+    let c : slice_index_or h.normal n.0 (pos 0) ≡ n.1 = any_default h.normal n.0 (pos 0) n.1 n.2 ∙ n.3 in (
       p,
       slice_index_or (turned d by h.normal) p (pos 0),
       omega (arith, in_p, length-turned d by h.normal),

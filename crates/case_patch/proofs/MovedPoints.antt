@@ -1,8 +1,7 @@
 -- The points of a carried labelling of a cube are the moved points.
-use Rattle.std.specs.Prelude.{◌≡◌, ◌⊎◌, ℕ, zero, suc, ◌+◌, ◌-◌, ◌*◌, ◌%◌, ◌^◌, ◌<◌, ◌≤◌, min, max, ℤ, pos, ◌-ℤ◌, Bool, true, false, not, cond, ◌==◌, nat_lt, nat_eq, if◌then◌else◌, List, [], ◌∷◌, ◌++◌, map, filter, length, slice_index, slice_index_or, All, Contains}
-use Rattle.std.specs.List.{position_or_len}
+use Rattle.std.specs.Prelude.{◌≡◌, ◌⊎◌, ℕ, zero, suc, ◌+◌, ◌-◌, ◌*◌, ◌%◌, ◌^◌, ◌<◌, ◌≤◌, ℤ, pos, ◌-ℤ◌, Bool, true, false, not, cond, ◌==◌, nat_lt, nat_eq, if◌then◌else◌, List, [], ◌∷◌, map, length, slice_index, slice_index_or, Contains}
 use Rattle.std.specs.Int.{bit_at}
-use Rattle.std.proofs.Common.{refl, sym, ap, ◌∙◌, subst, arith, inl, inr}
+use Rattle.std.proofs.Common.{refl, sym, ap, ◌∙◌, arith, inl, inr}
 use Rattle.std.proofs.lemmas.Bool.{eq-eqb, eqb-true, eqb-false, lt-ltb, le-ltb, cases_lt}
 use Rattle.std.proofs.lemmas.Bool.Decides.{nat_tests}
 use Rattle.std.proofs.lemmas.Int.{ints}
@@ -10,21 +9,19 @@ use Rattle.std.proofs.lemmas.List.{length-map, get_or-map, get_or_append_left, g
 use Rattle.std.proofs.lemmas.Nat.Bits.{bit_at-lt}
 use Rattle.iso_model.specs.declared.Kind.TheVariants.{Cube}
 use Rattle.iso_model.specs.Orders.{numbers, orders}
-use Rattle.iso_model.specs.Points.{axes, plus}
-use Rattle.iso_model.specs.Cells.{HasDimension, is_set, corner_count, corner_point, edge_count, edge_ends, edge_midpoint, midpoint_between}
+use Rattle.iso_model.specs.Points.{plus}
+use Rattle.iso_model.specs.Cells.{is_set, corner_point, edge_count, edge_ends, edge_midpoint, midpoint_between}
 use Rattle.iso_model.specs.Bipolar.{is_bipolar_in}
 use Rattle.iso_model.specs.Entries.{label_edges, label_corners, label_points}
 use Rattle.iso_model.specs.Moves.{Move, IsMove, Carries, move_corner, move_edge}
-use Rattle.iso_model.proofs.Deciding.{below_contained, contained_below, Contains-at, any_default}
+use Rattle.iso_model.proofs.Deciding.{below_contained, contained_below, Contains-at}
 use Rattle.iso_model.proofs.FaceLaws.{Contains-filter, Contains-split}
-use Rattle.iso_model.proofs.FixedLists.{AscendsBy}
 use Rattle.iso_model.proofs.PlaceLaws.{map-map}
 use Rattle.pulling_tri.proofs.ChainLaws.{Ascends, filter_ascends}
 use Rattle.pulling_tri.proofs.SetBits.{kept_by, kept_passes, range_ascends}
 use Rattle.cell_lattice.specs.Dimensions.{IsDimension}
 use Rattle.cube_moves.proofs.MovedBits.{corner-bit, corner-below}
-use Rattle.cube_moves.proofs.OrderChecks.{axis-below, few_axes}
-use Rattle.cube_moves.proofs.MovedEdges.{edge_step}
+use Rattle.cube_moves.proofs.OrderChecks.{axis-below}
 use Rattle.cube_moves.proofs.InverseMoves.{AreInverse, inverse_too, carries_back, edge_moved, edge_moved_ends, edge_there, bipolar_moved}
 use Rattle.case_patch.specs.MovedPoints.{place, carried_point}
 use Rattle.case_patch.proofs.LabelPoints.{points_length}

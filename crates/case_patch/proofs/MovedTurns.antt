@@ -1,12 +1,12 @@
 -- Rows with their columns in another order and with signs: the turn stays other than zero.
-use Rattle.std.specs.Prelude.{◌≡◌, ◌≢◌, ℕ, ◌+◌, ◌-◌, ◌*◌, ◌/◌, ◌%◌, ◌<◌, ◌≤◌, ℤ, pos, negsuc, ◌+ℤ◌, ◌*ℤ◌, ◌-ℤ◌, neg_ℤ, Bool, true, false, nat_lt, if◌then◌else◌, cond, List, [], ◌∷◌, map, length, slice_index, slice_index_or, All, Contains, zero, suc}
-use Rattle.std.proofs.Common.{refl, sym, ap, ◌∙◌, subst, arith}
+use Rattle.std.specs.Prelude.{◌≡◌, ◌≢◌, ℕ, ◌+◌, ◌-◌, ◌*◌, ◌/◌, ◌%◌, ◌<◌, ℤ, pos, negsuc, ◌+ℤ◌, ◌*ℤ◌, Bool, true, false, nat_lt, if◌then◌else◌, List, [], ◌∷◌, map, length, slice_index, slice_index_or, All, Contains, zero, suc}
+use Rattle.std.proofs.Common.{refl, sym, ap, ◌∙◌, arith}
 use Rattle.std.proofs.lemmas.Bool.Decides.{nat_tests}
 use Rattle.std.proofs.lemmas.Int.{ints}
 use Rattle.std.proofs.lemmas.List.{length-map}
 use Rattle.std.proofs.lemmas.List.FromFn.{fill_by_all, get_or-map-range_with_len, length-map-range_with_len}
 use Rattle.polynomials.proofs.IntLaws.{mul-eq-zero, mul-minus_one, mul-one_left}
-use Rattle.polynomials.proofs.Ring.{Expr, var, con, ◌⊕◌, ◌⊖◌, ◌⊗◌, neg, value, normal, ring}
+use Rattle.polynomials.proofs.Ring.{Expr, var, ◌⊗◌, value, normal, ring}
 use Rattle.iso_model.specs.Orders.{numbers, orders, is_odd_order}
 use Rattle.iso_model.specs.Cells.{is_set}
 use Rattle.iso_model.specs.Moves.{Move}

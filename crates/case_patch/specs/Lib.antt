@@ -2,3 +2,4 @@ pub mod BoundarySets
 pub mod Tuples
 pub mod SideRows
 pub mod MovedPoints
+pub mod FacetLists

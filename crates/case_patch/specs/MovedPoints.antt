@@ -1,9 +1,10 @@
 -- The points of a labelling of a cube by their numbers, and where a move carries them.
-use Rattle.std.specs.Prelude.{ℕ, ◌+◌, ◌-◌, nat_lt, nat_eq, List, length, slice_index, if◌then◌else◌}
+use Rattle.std.specs.Prelude.{◌≡◌, ℕ, ◌+◌, ◌-◌, nat_lt, nat_eq, List, map, length, slice_index, if◌then◌else◌}
 use Rattle.std.specs.List.{position_or_len}
 use Rattle.iso_model.specs.declared.Kind.TheVariants.{Cube}
-use Rattle.iso_model.specs.Entries.{label_edges, label_corners}
-use Rattle.iso_model.specs.Moves.{Move, move_corner, move_edge}
+use Rattle.iso_model.specs.Orders.{numbers}
+use Rattle.iso_model.specs.Entries.{label_edges, label_corners, label_points}
+use Rattle.iso_model.specs.Moves.{Move, Carries, move_corner, move_edge}
 
 -- the place of a number in a list
 abbrev pub place : List ℕ → ℕ → ℕ
@@ -19,3 +20,9 @@ carried_among d by es ks fs ls i =
 abbrev pub carried_point : ℕ → Move → ℕ → ℕ → ℕ → ℕ
 carried_point d by label other i =
     carried_among d by (label_edges Cube d label) (label_corners Cube d label) (label_edges Cube d other) (label_corners Cube d other) i
+
+-- the numbers to which a move carries all points of a labelling, in their order
+pub record AreCarriedNumbers (d : ℕ) (by : Move) (label : ℕ) (list : List ℕ) : Type 0 where
+  pub other : ℕ
+  pub carries : Carries d by label other
+  pub numbered : list ≡ map (carried_point d by label other) (numbers (length (label_points Cube d label)))

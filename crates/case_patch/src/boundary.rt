@@ -69,7 +69,7 @@ pub(crate) fn boundary_sets<C: Cell<D>, const D: usize>(
     Ok(sets)
 }
 
-fn add_set(sets: &mut Vec<u64>, set: u64) -> Result<(), Memory>
+pub(crate) fn add_set(sets: &mut Vec<u64>, set: u64) -> Result<(), Memory>
     ensures { OnOk result (sets.new.items ≡ sets.old.items ++ set ∷ []) }
 {
     match sets.push(set) {

@@ -8,6 +8,7 @@
 
 mod boundary;
 mod facets;
+mod moved;
 mod patches;
 mod points;
 mod sides;
@@ -15,4 +16,4 @@ mod sides;
 mod tests;
 
 pub use facets::hull;
-pub use patches::patch;
+pub use patches::{patch, patch_moved};

@@ -1,16 +1,21 @@
 //! The entry of a labelling.
 
-ghost use Rattle.std.specs.Prelude.{◌≡◌, ◌↔◌, ℕ, ◌^◌, ◌<◌, ◌≤◌, ◌++◌, ◌∷◌, [], List, All, Contains, IfOk, IfSome, IfNone, OnOk, length, map};
-ghost use Rattle.iso_model.specs.Entries.{IsEntryOf, IsPulledTuple};
+ghost use Rattle.std.specs.Prelude.{◌≡◌, ◌↔◌, ◌⊎◌, ℕ, ◌^◌, ◌<◌, ◌≤◌, ◌++◌, ◌∷◌, [], List, All, Contains, IfOk, IfSome, IfNone, OnOk, length, map};
+ghost use Rattle.iso_model.specs.declared.Kind.{Kind};
+ghost use Rattle.iso_model.specs.Entries.{IsEntryOf, IsPulledTuple, label_points};
+ghost use Rattle.iso_model.specs.Moves.{IsMove, Carries};
+ghost use Rattle.halfspace.specs.Choices.{AreFacetNumbers};
 ghost use Rattle.pulling_tri.specs.PointSets.{point_set};
+ghost use Rattle.case_patch.specs.FacetLists.{AreAllFacets};
 ghost use Rattle.case_patch.specs.Tuples.{Adds, IsNamed, IsTupleOf, IsOffTuple, IsTupleOfSome, IsOrdered};
-ghost use Rattle.iso_model.specs.Dimensions.{IsDimension};
 
 use crate::boundary::{boundary_sets, lies_off};
 use crate::facets::hull;
+use crate::moved::{carried_numbers, carried_sets};
 use crate::points::{bipolar_edges, positive_corners};
 use crate::sides::orient;
-use cell_lattice::Cell;
+use cell_lattice::{Cell, Kind};
+use cube_moves::{Move, least_label};
 use iso_base::Memory;
 use pulling_tri::pull;
 use std::alloc::Global;
@@ -64,7 +69,7 @@ fn add_facet<const D: usize>(
     edges: &[u8],
     tuples: &mut Vec<[u8; D]>,
 ) -> Result<(), Memory>
-    requires { IsDimension D }
+    requires { (D ≡ 2) ⊎ ((D ≡ 3) ⊎ (D ≡ 4)) }
     ensures { OnOk result (Adds (IsTupleOf (Contains (map point_set facets.now)) D edges.now (point_set facet)) tuples.old.items tuples.new.items) }
 {
     let simplices = pull::<D>(alloc, facets, facet)?;
@@ -83,7 +88,7 @@ fn add_if_off<const D: usize>(
     edges: &[u8],
     tuples: &mut Vec<[u8; D]>,
 ) -> Result<(), Memory>
-    requires { IsDimension D }
+    requires { (D ≡ 2) ⊎ ((D ≡ 3) ⊎ (D ≡ 4)) }
     ensures { OnOk result (Adds (IsOffTuple (Contains (map point_set facets.now)) boundary.now D edges.now facet) tuples.old.items tuples.new.items) }
 {
     if lies_off(facet, boundary) {
@@ -99,7 +104,7 @@ fn off_tuples<const D: usize>(
     boundary: &[u64],
     edges: &[u8],
 ) -> Result<Vec<[u8; D]>, Memory>
-    requires { IsDimension D }
+    requires { (D ≡ 2) ⊎ ((D ≡ 3) ⊎ (D ≡ 4)) }
     ensures { IfOk result (λ tuples. Adds (IsTupleOfSome facets.now (Contains (map point_set facets.now)) boundary.now D edges.now) [] tuples.items) }
 {
     let mut tuples = Vec::new(alloc);
@@ -109,29 +114,93 @@ fn off_tuples<const D: usize>(
     Ok(tuples)
 }
 
-// The pulled simplices of all facets of a labelling's points that lie off the cell's boundary, each by its edges.
+// The pulled simplices of all facets of a labelling's points that lie off the cell's boundary, each by its edges. The
+// facets are given as sets of points, in any order.
 fn pulled_tuples<C: Cell<D>, const D: usize>(
     alloc: Global,
     label: u32,
+    facets: &[u64],
 ) -> Result<Vec<[u8; D]>, Memory>
-    requires { label < 2 ^ C.CORNERS }
+    requires label { label < 2 ^ C.CORNERS }
+    requires facets { AreAllFacets D (label_points C.KIND D label) facets.now }
     ensures { IfOk result (λ tuples. (tuple : List ℕ) → Contains tuples.items tuple ↔ IsPulledTuple C.KIND D label tuple) }
 {
     let edges = bipolar_edges::<C, D>(alloc, label)?;
     let corners = positive_corners::<C, D>(alloc, label)?;
     let boundary = boundary_sets::<C, D>(alloc, &edges, &corners)?;
-    let facets = hull::<C, D>(alloc, label)?;
-    off_tuples(alloc, &facets, &boundary, &edges)
+    off_tuples(alloc, facets, &boundary, &edges)
 }
 
 // Puts tuples in ascending order, each once.
 fn put_in_order<const D: usize>(tuples: &mut Vec<[u8; D]>)
-    requires dimension { IsDimension D }
+    requires dimension { (D ≡ 2) ⊎ ((D ≡ 3) ⊎ (D ≡ 4)) }
     requires wide { (tuple : List ℕ) → Contains tuples.old.items tuple → length tuple ≡ D }
     ensures { IsOrdered tuples.old.items tuples.new.items }
 {
     tuples.sort_unstable();
     tuples.dedup();
+}
+
+// The entry of a labelling, where the facets of its points are known.
+fn entry_with<C: Cell<D>, const D: usize>(
+    alloc: Global,
+    label: u32,
+    facets: &[u64],
+) -> Result<Vec<[u8; D]>, Memory>
+    requires label { label < 2 ^ C.CORNERS }
+    requires facets { AreAllFacets D (label_points C.KIND D label) facets.now }
+    ensures { IfOk result (λ entry. IsEntryOf C.KIND D label entry.items) }
+{
+    let mut tuples = pulled_tuples::<C, D>(alloc, label, facets)?;
+    put_in_order(&mut tuples);
+    orient::<C, D>(label, &mut tuples);
+    Ok(tuples)
+}
+
+/// The entry of a labelling of a cube, from the facets of the labelling to which a move carries it: `class` has the answer
+/// of `hull` for the label to which `by` carries `label`. The facets are carried back along the move, and then pulled by
+/// the labelling's own numbers of edges. The only error is want of memory.
+pub fn patch_moved<C: Cell<D>, const D: usize>(
+    alloc: Global,
+    label: u32,
+    by: &Move<D>,
+    class: &[u64],
+) -> Result<Vec<[u8; D]>, Memory>
+    requires kind { C.KIND ≡ Kind.Cube }
+    requires label { label < 2 ^ C.CORNERS }
+    requires is_move { IsMove D (record { axes = by.now.axes; flips = by.now.flips }) }
+    requires class { (other : ℕ) → Carries D (record { axes = by.now.axes; flips = by.now.flips }) label other → AreFacetNumbers D (label_points C.KIND D other) class.now }
+    ensures { IfOk result (λ entry. IsEntryOf C.KIND D label entry.items) }
+{
+    let numbers = carried_numbers::<C, D>(alloc, label, by)?;
+    let facets = carried_sets(alloc, class, &numbers)?;
+    entry_with::<C, D>(alloc, label, &facets)
+}
+
+// The entry of a labelling, from the facets of its own points.
+fn patch_alone<C: Cell<D>, const D: usize>(
+    alloc: Global,
+    label: u32,
+) -> Result<Vec<[u8; D]>, Memory>
+    requires { label < 2 ^ C.CORNERS }
+    ensures { IfOk result (λ entry. IsEntryOf C.KIND D label entry.items) }
+{
+    let facets = hull::<C, D>(alloc, label)?;
+    entry_with::<C, D>(alloc, label, &facets)
+}
+
+// The entry of a labelling of a cube, from the facets of the least labelling to which a move carries it.
+fn patch_by_class<C: Cell<D>, const D: usize>(
+    alloc: Global,
+    label: u32,
+) -> Result<Vec<[u8; D]>, Memory>
+    requires kind { C.KIND ≡ Kind.Cube }
+    requires label { label < 2 ^ C.CORNERS }
+    ensures { IfOk result (λ entry. IsEntryOf C.KIND D label entry.items) }
+{
+    let (class, by) = least_label::<D>(label);
+    let facets = hull::<C, D>(alloc, class)?;
+    patch_moved::<C, D>(alloc, label, &by, &facets)
 }
 
 /// The entry of a labelling: the simplices of the isosurface patch, each as the tuple of the edges on which its vertices
@@ -147,8 +216,8 @@ pub fn patch<C: Cell<D>, const D: usize>(alloc: Global, label: u32) -> Result<Ve
     requires { label < 2 ^ C.CORNERS }
     ensures { IfOk result (λ entry. IsEntryOf C.KIND D label entry.items) }
 {
-    let mut tuples = pulled_tuples::<C, D>(alloc, label)?;
-    put_in_order(&mut tuples);
-    orient::<C, D>(label, &mut tuples);
-    Ok(tuples)
+    match C::KIND {
+        Kind::Cube => patch_by_class::<C, D>(alloc, label),
+        _ => patch_alone::<C, D>(alloc, label),
+    }
 }

@@ -52,7 +52,7 @@ pub(crate) fn positive_corners<C: Cell<D>, const D: usize>(
     Ok(corners)
 }
 
-fn add_number(numbers: &mut Vec<u8>, number: u8) -> Result<(), Memory>
+pub(crate) fn add_number(numbers: &mut Vec<u8>, number: u8) -> Result<(), Memory>
     ensures { OnOk result (numbers.new.items ≡ numbers.old.items ++ number ∷ []) }
 {
     match numbers.push(number) {

@@ -1,7 +1,8 @@
 //! Entries of single labellings.
 
-use crate::{hull, patch};
+use crate::{hull, patch, patch_moved};
 use cell_lattice::{CubeCell, PyramidCell, SimplexCell};
+use cube_moves::least_label;
 
 #[test]
 fn hull_of_opposite_corners(rt: HostRuntime) {
@@ -44,4 +45,13 @@ fn entries_of_one_positive_corner(rt: HostRuntime) {
     assert_eq!(rt; tetrahedron.as_slice(), [[0, 2, 1]].as_slice());
     let hypercube = patch::<CubeCell<4>, 4>(rt.alloc(), 1).expect(&rt, "memory");
     assert_eq!(rt; hypercube.as_slice(), [[0, 1, 4, 12]].as_slice());
+}
+
+#[test]
+fn entry_from_the_hull_of_the_least_label(rt: HostRuntime) {
+    let (least, by) = least_label::<2>(8);
+    let class = hull::<CubeCell<2>, 2>(rt.alloc(), least).expect(&rt, "memory");
+    assert_eq!(rt; class.as_slice(), [3, 5, 6].as_slice());
+    let entry = patch_moved::<CubeCell<2>, 2>(rt.alloc(), 8, &by, &class).expect(&rt, "memory");
+    assert_eq!(rt; entry.as_slice(), [[3, 2]].as_slice());
 }

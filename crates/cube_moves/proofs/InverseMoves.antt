@@ -16,7 +16,7 @@ use Rattle.cell_lattice.specs.Dimensions.{IsDimension}
 use Rattle.cube_moves.specs.Joined.{IsJoined}
 use Rattle.cube_moves.proofs.MovedBits.{order_alone, flips_alone, with_flips, corner-below, corner-bit}
 use Rattle.cube_moves.proofs.OrderChecks.{back, each_below, each_order, few_axes, axis-below}
-use Rattle.cube_moves.proofs.LeastLabels.{order_there}
+use Rattle.cube_moves.proofs.LeastLabels.{order_there, same_bit}
 use Rattle.cube_moves.proofs.ExchangeChecks.{order_of}
 use Rattle.cube_moves.proofs.MovedEdges.{edge_step, moved_joined}
 
@@ -210,3 +210,11 @@ bipolar_moved d is by move label other c e h =
     differ_turned true false = refl
     differ_turned false true = refl
     differ_turned false false = refl
+
+-- a move carries a label to one label alone
+pub carried_once : (d : ℕ) (by un : Move) → AreInverse d by un → (label m n : ℕ) → Carries d by label m → Carries d by label n → m ≡ n
+carried_once d by un i label m n c e =
+    same_from_bits_below (2 ^ d) m n c.0 e.0
+    (λ k h. same_bit m n k
+        (let j = corner-below d un k in
+        ap (is_set m) (sym (i.again k h)) ∙ c.1 (move_corner d un k) j ∙ sym (e.1 (move_corner d un k) j) ∙ ap (is_set n) (i.again k h)))

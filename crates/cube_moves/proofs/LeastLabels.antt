@@ -18,7 +18,7 @@ use Rattle.cube_moves.proofs.ExchangeChecks.{order_of}
 
 -- ---- a label is known by the signs of the moved corners
 
-same_bit : (a b c : ℕ) → is_set a c ≡ is_set b c → bit_at a c ≡ bit_at b c
+pub same_bit : (a b c : ℕ) → is_set a c ≡ is_set b c → bit_at a c ≡ bit_at b c
 same_bit a b c e = by_digit (bit_at a c) (bit_at b c) (bit_at-lt a c) (bit_at-lt b c) e
   where
     by_digit : (x y : ℕ) → x < 2 → y < 2 → (x == 1) ≡ (y == 1) → x ≡ y

@@ -1,0 +1,128 @@
+//! Facets that a move of a cube carries from one labelling to another.
+
+ghost use Rattle.std.specs.Prelude.{◌≡◌, ◌+◌, ◌^◌, ◌<◌, ◌≤◌, All, IfOk, length, map, filter, slice_index};
+ghost use Rattle.iso_model.specs.declared.Kind.{Kind};
+ghost use Rattle.iso_model.specs.Orders.{numbers};
+ghost use Rattle.iso_model.specs.Cells.{is_set, edge_count};
+ghost use Rattle.iso_model.specs.Hulls.{set_number};
+ghost use Rattle.iso_model.specs.Moves.{IsMove};
+ghost use Rattle.cell_lattice.specs.Dimensions.{IsDimension};
+ghost use Rattle.case_patch.specs.MovedPoints.{place, carried_among, AreCarriedNumbers};
+
+use crate::boundary::add_set;
+use crate::points::{add_number, bipolar_edges, positive_corners};
+use cell_lattice::Cell;
+use cube_moves::{Move, move_corner, move_edge, move_label};
+use iso_base::Memory;
+use std::alloc::Global;
+
+// The place of a number in a list, or the length of the list.
+fn place_of(list: &[u8], number: u8) -> usize
+    ensures value { result ≡ place list.now number }
+    ensures within { result ≤ length list.now }
+{
+    for (at, member) in list.iter().enumerate() {
+        if *member == number {
+            return at;
+        }
+    }
+    list.len()
+}
+
+// The number of the point to which a move carries a point. The points of both labellings are given by their edges and
+// corners.
+fn carried_number<const D: usize>(
+    by: &Move<D>,
+    edges: &[u8],
+    corners: &[u8],
+    moved_edges: &[u8],
+    moved_corners: &[u8],
+    point: usize,
+) -> u8
+    requires dimension { IsDimension D }
+    requires is_move { IsMove D (record { axes = by.now.axes; flips = by.now.flips }) }
+    requires edges { All (λ e. e < edge_count Kind.Cube D) edges.now }
+    requires corners { All (λ k. k < 2 ^ D) corners.now }
+    requires few { length moved_edges.now + length moved_corners.now ≤ 48 }
+    requires point { point < length edges.now + length corners.now }
+    ensures { result ≡ carried_among D (record { axes = by.now.axes; flips = by.now.flips }) edges.now corners.now moved_edges.now moved_corners.now point }
+{
+    if point < edges.len() {
+        place_of(moved_edges, move_edge(by, edges[point])) as u8
+    } else {
+        let corner = move_corner(by, corners[point - edges.len()]);
+        (moved_edges.len() + place_of(moved_corners, corner)) as u8
+    }
+}
+
+// The same for all points, in their order.
+fn numbers_among<const D: usize>(
+    alloc: Global,
+    by: &Move<D>,
+    edges: &[u8],
+    corners: &[u8],
+    moved_edges: &[u8],
+    moved_corners: &[u8],
+) -> Result<Vec<u8>, Memory>
+    requires dimension { IsDimension D }
+    requires is_move { IsMove D (record { axes = by.now.axes; flips = by.now.flips }) }
+    requires edges { All (λ e. e < edge_count Kind.Cube D) edges.now }
+    requires corners { All (λ k. k < 2 ^ D) corners.now }
+    requires room { length edges.now + length corners.now ≤ 48 }
+    requires few { length moved_edges.now + length moved_corners.now ≤ 48 }
+    ensures { IfOk result (λ list. list.items ≡ map (carried_among D (record { axes = by.now.axes; flips = by.now.flips }) edges.now corners.now moved_edges.now moved_corners.now) (numbers (length edges.now + length corners.now))) }
+{
+    let mut list = Vec::new(alloc);
+    for point in 0..edges.len() + corners.len() {
+        let number = carried_number(by, edges, corners, moved_edges, moved_corners, point);
+        add_number(&mut list, number)?;
+    }
+    Ok(list)
+}
+
+// The numbers of the points to which a move carries the points of a labelling, in their order.
+pub(crate) fn carried_numbers<C: Cell<D>, const D: usize>(
+    alloc: Global,
+    label: u32,
+    by: &Move<D>,
+) -> Result<Vec<u8>, Memory>
+    requires kind { C.KIND ≡ Kind.Cube }
+    requires label { label < 2 ^ C.CORNERS }
+    requires is_move { IsMove D (record { axes = by.now.axes; flips = by.now.flips }) }
+    ensures { IfOk result (λ list. AreCarriedNumbers D (record { axes = by.now.axes; flips = by.now.flips }) label list.items) }
+{
+    let edges = bipolar_edges::<C, D>(alloc, label)?;
+    let corners = positive_corners::<C, D>(alloc, label)?;
+    let other = move_label(by, label);
+    let moved_edges = bipolar_edges::<C, D>(alloc, other)?;
+    let moved_corners = positive_corners::<C, D>(alloc, other)?;
+    numbers_among(alloc, by, &edges, &corners, &moved_edges, &moved_corners)
+}
+
+// The set of the points of which the numbers are members of a set.
+fn carried_set(set: u64, list: &[u8]) -> u64
+    requires members { All (λ i. i < 64) list.now }
+    requires few { length list.now ≤ 48 }
+    ensures { result ≡ set_number (filter (λ i. is_set set (slice_index list.now i)) (numbers (length list.now))) }
+{
+    let mut carried = 0;
+    for point in 0..list.len() {
+        if (set >> list[point]) & 1 == 1 {
+            carried |= 1 << point;
+        }
+    }
+    carried
+}
+
+// The same of each of some sets.
+pub(crate) fn carried_sets(alloc: Global, sets: &[u64], list: &[u8]) -> Result<Vec<u64>, Memory>
+    requires members { All (λ i. i < 64) list.now }
+    requires few { length list.now ≤ 48 }
+    ensures { IfOk result (λ carried. carried.items ≡ map (λ set. set_number (filter (λ i. is_set set (slice_index list.now i)) (numbers (length list.now)))) sets.now) }
+{
+    let mut carried = Vec::new(alloc);
+    for set in sets {
+        add_set(&mut carried, carried_set(*set, list))?;
+    }
+    Ok(carried)
+}
