@@ -2,18 +2,18 @@
 use Rattle.std.specs.Prelude.{◌≡◌, ◌↔◌, ◌≤◌, ◌<◌, ◌==◌, ℕ, ℤ, Bool, true, false, List, map, filter, length, Contains}
 use Rattle.std.proofs.Common.{refl, sym, ap, ◌∙◌, subst}
 use Rattle.std.proofs.lemmas.Nat.Bits.{bit_at_above}
-use Rattle.iso_model.specs.Orders.{numbers}
-use Rattle.iso_model.specs.Hulls.{IsFacet, set_number}
-use Rattle.iso_model.proofs.BipolarLaws.{Contains-map}
+use Rattle.iso_model.specs.Hulls.{IsFacet}
 use Rattle.halfspace.specs.Choices.{AreFacetNumbers, IsFacetNumber}
 use Rattle.halfspace.proofs.FoundSets.{digit, bit_of_number}
-use Rattle.halfspace.proofs.SetNumbers.{set_number-below}
 use Rattle.pulling_tri.specs.PointSets.{point_set}
 use Rattle.pulling_tri.proofs.Callers.{points-are}
 use Rattle.pulling_tri.proofs.ChainLaws.{Ascends, filter_ascends}
 use Rattle.pulling_tri.proofs.SetBits.{range_ascends}
 use Rattle.case_patch.specs.FacetLists.{AreAllFacets}
-use Rattle.case_patch.proofs.AddedTuples.{contains_mapped}
+use Rattle.lists.specs.Orders.{numbers}
+use Rattle.lists.specs.Bits.{set_number}
+use Rattle.lists.proofs.Contained.{from_Contains-map, Contains-mapped}
+use Rattle.halfspace.proofs.TightNumbers.{set_number-below}
 
 digit_test : (b : Bool) → (digit b == 1) ≡ b
 digit_test true = refl
@@ -38,12 +38,14 @@ pub record IsNumberOf (d : ℕ) (points : List (List ℤ)) (number : ℕ) : Type
   pub is : number ≡ set_number set
   pub shown : point_set number ≡ set
 
-pub number_facet : (d : ℕ) (points : List (List ℤ)) (found : List ℕ) (number : ℕ) → length points ≤ 64 → AreAllFacets d points found → Contains found number → IsNumberOf d points number
+pub number_facet : (d : ℕ) (points : List (List ℤ)) (found : List ℕ) (number : ℕ) → length points ≤ 64 → AreAllFacets d points found
+    → Contains found number → IsNumberOf d points number
 number_facet d points found number h are c =
     let m = (are.each number).0 c in
     record { set = m.0; facet = m.1; is = m.2; shown = ap point_set m.2 ∙ facet_set d points m.0 h m.1 }
 
-pub facet_number : (d : ℕ) (points : List (List ℤ)) (found : List ℕ) (set : List ℕ) → AreAllFacets d points found → IsFacet d points set → Contains found (set_number set)
+pub facet_number : (d : ℕ) (points : List (List ℤ)) (found : List ℕ) (set : List ℕ) → AreAllFacets d points found → IsFacet d points set
+    → Contains found (set_number set)
 facet_number d points found set are f = (are.each (set_number set)).1 (set, f, refl)
 
 -- the numbers in ascending order are the numbers of all facets
@@ -52,22 +54,27 @@ listed_facets d points found are = record { each = λ number. (λ c. there numbe
   where
     there : (number : ℕ) → Contains found number → IsFacetNumber d points number
     there number c =
-        let m = Contains-map set_number are.sets number (subst (λ (xs : List ℕ). Contains xs number) are.numbered c) in
+        let m = from_Contains-map set_number are.sets number (subst (λ (xs : List ℕ). Contains xs number) are.numbered c) in
         (m.0, (are.facets.each m.0).0 m.1, sym m.2)
 
     back : (number : ℕ) → IsFacetNumber d points number → Contains found number
     back number f =
-        subst (Contains found) (sym f.2) (subst (λ (xs : List ℕ). Contains xs (set_number f.0)) (sym are.numbered) (contains_mapped set_number are.sets f.0 ((are.facets.each f.0).1 f.1)))
+        subst (Contains found) (sym f.2)
+            (subst (λ (xs : List ℕ). Contains xs (set_number f.0)) (sym are.numbered)
+                 (Contains-mapped set_number are.sets f.0 ((are.facets.each f.0).1 f.1)))
 
 -- the sets of these numbers are the facets
-pub facets_same : (d : ℕ) (points : List (List ℤ)) (found : List ℕ) → length points ≤ 64 → AreAllFacets d points found → (set : List ℕ) → Contains (map point_set found) set ↔ IsFacet d points set
+pub facets_same : (d : ℕ) (points : List (List ℤ)) (found : List ℕ) → length points ≤ 64 → AreAllFacets d points found → (set : List ℕ)
+    → Contains (map point_set found) set ↔ IsFacet d points set
 facets_same d points found h are set = (λ c. there c, λ f. back f)
   where
     there : Contains (map point_set found) set → IsFacet d points set
     there c =
-        let m = Contains-map point_set found set c in
+        let m = from_Contains-map point_set found set c in
         let n = number_facet d points found m.0 h are m.1 in
         subst (IsFacet d points) (sym n.shown ∙ m.2) n.facet
 
     back : IsFacet d points set → Contains (map point_set found) set
-    back f = subst (Contains (map point_set found)) (facet_set d points set h f) (contains_mapped point_set found (set_number set) (facet_number d points found set are f))
+    back f =
+        subst (Contains (map point_set found)) (facet_set d points set h f)
+            (Contains-mapped point_set found (set_number set) (facet_number d points found set are f))

@@ -1,5 +1,6 @@
 -- Rows with their columns in another order and with signs: the turn stays other than zero.
-use Rattle.std.specs.Prelude.{◌≡◌, ◌≢◌, ℕ, ◌+◌, ◌-◌, ◌*◌, ◌/◌, ◌%◌, ◌<◌, ℤ, pos, negsuc, ◌+ℤ◌, ◌*ℤ◌, Bool, true, false, nat_lt, if◌then◌else◌, List, [], ◌∷◌, map, length, slice_index, slice_index_or, All, Contains, zero, suc}
+use Rattle.std.specs.Prelude.{◌≡◌, ◌≢◌, ℕ, ◌+◌, ◌-◌, ◌*◌, ◌/◌, ◌%◌, ◌<◌, ℤ, pos, negsuc, ◌+ℤ◌, ◌*ℤ◌, Bool, true, false, nat_lt, if◌then◌else◌, List}
+use Rattle.std.specs.Prelude.{[], ◌∷◌, map, length, slice_index, slice_index_or, All, Contains, zero, suc}
 use Rattle.std.proofs.Common.{refl, sym, ap, ◌∙◌, arith}
 use Rattle.std.proofs.lemmas.Bool.Decides.{nat_tests}
 use Rattle.std.proofs.lemmas.Int.{ints}
@@ -7,17 +8,16 @@ use Rattle.std.proofs.lemmas.List.{length-map}
 use Rattle.std.proofs.lemmas.List.FromFn.{fill_by_all, get_or-map-range_with_len, length-map-range_with_len}
 use Rattle.polynomials.proofs.IntLaws.{mul-eq-zero, mul-minus_one, mul-one_left}
 use Rattle.polynomials.proofs.Ring.{Expr, var, ◌⊗◌, value, normal, ring}
-use Rattle.iso_model.specs.Orders.{numbers, orders, is_odd_order}
-use Rattle.iso_model.specs.Cells.{is_set}
 use Rattle.iso_model.specs.Moves.{Move}
 use Rattle.iso_model.specs.Turns.{turn, total, signed, product_along}
-use Rattle.iso_model.proofs.Deciding.{below_contained, each-from_All}
-use Rattle.iso_model.proofs.FaceLaws.{Contains-head, Contains-tail}
-use Rattle.iso_model.proofs.PlaceLaws.{map-map}
 use Rattle.small_turn.proofs.TurnExpr as E
 use Rattle.cell_lattice.specs.Agreement.{agree_on}
-use Rattle.cell_lattice.specs.Dimensions.{IsDimension, in_each_dimension}
 use Rattle.cube_moves.proofs.OrderChecks.{axis-below}
+use Rattle.lists.specs.Orders.{numbers, orders, is_odd_order}
+use Rattle.lists.specs.Bits.{is_set}
+use Rattle.lists.proofs.Contained.{below_contained, each-from_All, Contains-head, Contains-tail}
+use Rattle.lists.proofs.MemberLaws.{map-map}
+use Rattle.iso_model.specs.Dimensions.{IsDimension, in_each_dimension}
 
 -- ---- lists over the numbers below n
 
@@ -62,7 +62,9 @@ value-turn ρ rows =
     ∙ ap total (each (orders (length rows)))
     ∙ ap (λ (n : ℕ). total (map (λ o. signed (is_odd_order o) (product_along (map (map (value ρ)) rows) o)) (orders n))) (sym (length-map rows (map (value ρ))))
   where
-    each : (os : List (List ℕ)) → map (value ρ) (map (λ o. E.signed (is_odd_order o) (E.product_along rows o)) os) ≡ map (λ o. signed (is_odd_order o) (product_along (map (map (value ρ)) rows) o)) os
+    each : (os : List (List ℕ))
+        → map (value ρ) (map (λ o. E.signed (is_odd_order o) (E.product_along rows o)) os)
+              ≡ map (λ o. signed (is_odd_order o) (product_along (map (map (value ρ)) rows) o)) os
     each [] = refl
     each (o ∷ os) =
         ap (λ (z : ℤ). z ∷ map (value ρ) (map (λ o. E.signed (is_odd_order o) (E.product_along rows o)) os))
@@ -85,13 +87,28 @@ times n (i ∷ is) x = var (n + i) ⊗ times n is x
 same_turn : (d : ℕ) → IsDimension d → (axes : List ℕ) → Contains (orders d) axes
     → normal (E.turn (moved_rows d axes)) ≡ normal (E.signed (is_odd_order axes) (times (d * d) (numbers d) (E.turn (plain_rows d))))
 same_turn d is axes o =
-    each-from_All (λ axes. normal (E.turn (moved_rows d axes)) ≡ normal (E.signed (is_odd_order axes) (times (d * d) (numbers d) (E.turn (plain_rows d))))) (orders d) (all d is) axes o
+    each-from_All
+        (λ axes. normal (E.turn (moved_rows d axes)) ≡ normal (E.signed (is_odd_order axes) (times (d * d) (numbers d) (E.turn (plain_rows d)))))
+        (orders d) (all d is) axes o
   where
-    all : (d : ℕ) → IsDimension d → All (λ axes. normal (E.turn (moved_rows d axes)) ≡ normal (E.signed (is_odd_order axes) (times (d * d) (numbers d) (E.turn (plain_rows d))))) (orders d)
-    all = in_each_dimension (λ d. All (λ axes. normal (E.turn (moved_rows d axes)) ≡ normal (E.signed (is_odd_order axes) (times (d * d) (numbers d) (E.turn (plain_rows d))))) (orders d))
-        (agree_on (λ axes. normal (E.turn (moved_rows 2 axes))) (λ axes. normal (E.signed (is_odd_order axes) (times 4 (numbers 2) (E.turn (plain_rows 2))))) (orders 2) refl)
-        (agree_on (λ axes. normal (E.turn (moved_rows 3 axes))) (λ axes. normal (E.signed (is_odd_order axes) (times 9 (numbers 3) (E.turn (plain_rows 3))))) (orders 3) refl)
-        (agree_on (λ axes. normal (E.turn (moved_rows 4 axes))) (λ axes. normal (E.signed (is_odd_order axes) (times 16 (numbers 4) (E.turn (plain_rows 4))))) (orders 4) refl)
+    all : (d : ℕ) → IsDimension d
+        → All
+              (λ axes. normal (E.turn (moved_rows d axes)) ≡ normal (E.signed (is_odd_order axes) (times (d * d) (numbers d) (E.turn (plain_rows d)))))
+              (orders d)
+    all =
+        in_each_dimension
+            (λ d.
+                 All
+                     (λ axes.
+                          normal (E.turn (moved_rows d axes))
+                              ≡ normal (E.signed (is_odd_order axes) (times (d * d) (numbers d) (E.turn (plain_rows d)))))
+                     (orders d))
+        (agree_on (λ axes. normal (E.turn (moved_rows 2 axes)))
+             (λ axes. normal (E.signed (is_odd_order axes) (times 4 (numbers 2) (E.turn (plain_rows 2))))) (orders 2) refl)
+        (agree_on (λ axes. normal (E.turn (moved_rows 3 axes)))
+             (λ axes. normal (E.signed (is_odd_order axes) (times 9 (numbers 3) (E.turn (plain_rows 3))))) (orders 3) refl)
+        (agree_on (λ axes. normal (E.turn (moved_rows 4 axes)))
+             (λ axes. normal (E.signed (is_odd_order axes) (times 16 (numbers 4) (E.turn (plain_rows 4))))) (orders 4) refl)
 
 -- ---- the values of the variables
 
@@ -124,7 +141,8 @@ is_entry = in_each_dimension (λ d. (r a : ℕ) → r < d → a < d → IsEntry 
     (λ r a h k. record { inside = omega arith; row = omega arith; column = omega arith })
     (λ r a h k. record { inside = omega arith; row = omega arith; column = omega arith })
 
-value-entry : (d : ℕ) → IsDimension d → (entry : ℕ → ℕ → ℤ) (flip : ℕ → Bool) (r a : ℕ) → r < d → a < d → slice_index_or (values d entry flip) (r * d + a) (pos 0) ≡ entry r a
+value-entry : (d : ℕ) → IsDimension d → (entry : ℕ → ℕ → ℤ) (flip : ℕ → Bool) (r a : ℕ) → r < d → a < d
+    → slice_index_or (values d entry flip) (r * d + a) (pos 0) ≡ entry r a
 value-entry d is entry flip r a in_r in_a =
     let e = is_entry d is r a in_r in_a in
     let t : nat_lt (r * d + a) (d * d) ≡ true = let h = e.inside in grind (arith, nat_tests) in
@@ -160,7 +178,8 @@ moved_value : (d : ℕ) → IsDimension d → (by : Move) → Contains (orders d
     → map (map (value (values d entry (is_set by.flips)))) (moved_rows d by.axes) ≡ map (turned d by) (rows_of d entry)
 moved_value d is by o entry =
     map-map (λ r. map (λ i. var (d * d + i) ⊗ var (r * d + slice_index by.axes i)) (numbers d)) (map (value ρ)) (numbers d)
-    ∙ map_below (λ r. map (value ρ) (map (λ i. var (d * d + i) ⊗ var (r * d + slice_index by.axes i)) (numbers d))) (λ r. turned d by (map (entry r) (numbers d))) d
+    ∙ map_below (λ r. map (value ρ) (map (λ i. var (d * d + i) ⊗ var (r * d + slice_index by.axes i)) (numbers d)))
+        (λ r. turned d by (map (entry r) (numbers d))) d
     (λ r in_r. map-map (λ i. var (d * d + i) ⊗ var (r * d + slice_index by.axes i)) (value ρ) (numbers d)
     ∙ map_below (λ i. slice_index_or ρ (d * d + i) (pos 0) *ℤ slice_index_or ρ (r * d + slice_index by.axes i) (pos 0))
     (λ i. signed (is_set by.flips i) (slice_index_or (map (entry r) (numbers d)) (slice_index by.axes i) (pos 0))) d
@@ -174,23 +193,29 @@ moved_value d is by o entry =
     ρ : List ℤ
     ρ = values d entry (is_set by.flips)
 
-times-not_zero : (ρ : List ℤ) (n : ℕ) (is : List ℕ) (x : Expr) → ((i : ℕ) → Contains is i → slice_index_or ρ (n + i) (pos 0) ≢ pos 0) → value ρ x ≢ pos 0 → value ρ (times n is x) ≢ pos 0
+times-not_zero : (ρ : List ℤ) (n : ℕ) (is : List ℕ) (x : Expr) → ((i : ℕ) → Contains is i → slice_index_or ρ (n + i) (pos 0) ≢ pos 0)
+    → value ρ x ≢ pos 0 → value ρ (times n is x) ≢ pos 0
 times-not_zero ρ n [] x each ne = ne
 times-not_zero ρ n (i ∷ is) x each ne =
-    λ e. times-not_zero ρ n is x (λ j c. each j (Contains-tail j i is c)) ne (mul-eq-zero (slice_index_or ρ (n + i) (pos 0)) (value ρ (times n is x)) e (each i (Contains-head i is)))
+    λ e.
+        times-not_zero ρ n is x (λ j c. each j (Contains-tail j i is c)) ne
+            (mul-eq-zero (slice_index_or ρ (n + i) (pos 0)) (value ρ (times n is x)) e (each i (Contains-head i is)))
 
 signed-not_zero : (b : Bool) (z : ℤ) → z ≢ pos 0 → signed b z ≢ pos 0
 signed-not_zero true z ne e = ne (omega (arith, ints, e))
 signed-not_zero false z ne e = ne e
 
-pub turned_rows : (d : ℕ) → IsDimension d → (by : Move) → Contains (orders d) by.axes → (entry : ℕ → ℕ → ℤ) → turn (rows_of d entry) ≢ pos 0 → turn (map (turned d by) (rows_of d entry)) ≢ pos 0
+pub turned_rows : (d : ℕ) → IsDimension d → (by : Move) → Contains (orders d) by.axes → (entry : ℕ → ℕ → ℤ) → turn (rows_of d entry) ≢ pos 0
+    → turn (map (turned d by) (rows_of d entry)) ≢ pos 0
 turned_rows d is by o entry ne e =
     signed-not_zero (is_odd_order by.axes) (value ρ (times (d * d) (numbers d) (E.turn (plain_rows d))))
     (times-not_zero ρ (d * d) (numbers d) (E.turn (plain_rows d))
     (λ i c z. sign-not_zero (is_set by.flips i) (sym (value-sign d entry (is_set by.flips) i (below_contained d i c)) ∙ z))
     (λ z. ne (ap turn (sym (plain_value d is entry (is_set by.flips))) ∙ sym (value-turn ρ (plain_rows d)) ∙ z)))
     (sym (value-signed ρ (is_odd_order by.axes) (times (d * d) (numbers d) (E.turn (plain_rows d))))
-    ∙ sym (ring ρ (E.turn (moved_rows d by.axes)) (E.signed (is_odd_order by.axes) (times (d * d) (numbers d) (E.turn (plain_rows d)))) (same_turn d is by.axes o))
+    ∙ sym
+        (ring ρ (E.turn (moved_rows d by.axes)) (E.signed (is_odd_order by.axes) (times (d * d) (numbers d) (E.turn (plain_rows d))))
+             (same_turn d is by.axes o))
     ∙ value-turn ρ (moved_rows d by.axes) ∙ ap turn (moved_value d is by o entry) ∙ e)
   where
     ρ : List ℤ
@@ -207,7 +232,9 @@ rows_are d rows l wide =
     (λ r h. places_of (pos 0) (slice_index_or rows r []) d (wide r [] (omega arith)))
 
 -- turned rows span as well
-pub turned_spans : (d : ℕ) → IsDimension d → (by : Move) → Contains (orders d) by.axes → (rows : List (List ℤ)) → length rows ≡ d → AllWide d rows → turn rows ≢ pos 0 → turn (map (turned d by) rows) ≢ pos 0
+pub turned_spans : (d : ℕ) → IsDimension d → (by : Move) → Contains (orders d) by.axes → (rows : List (List ℤ)) → length rows ≡ d → AllWide d rows
+    → turn rows ≢ pos 0 → turn (map (turned d by) rows) ≢ pos 0
 turned_spans d is by o rows l wide ne e =
     let r = rows_are d rows l wide in
-    turned_rows d is by o (λ r a. slice_index_or (slice_index_or rows r []) a (pos 0)) (λ z. ne (ap turn r ∙ z)) (ap (λ (rs : List (List ℤ)). turn (map (turned d by) rs)) (sym r) ∙ e)
+    turned_rows d is by o (λ r a. slice_index_or (slice_index_or rows r []) a (pos 0)) (λ z. ne (ap turn r ∙ z))
+        (ap (λ (rs : List (List ℤ)). turn (map (turned d by) rs)) (sym r) ∙ e)

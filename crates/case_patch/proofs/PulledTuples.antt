@@ -4,10 +4,9 @@ use Rattle.std.proofs.Common.{sym, ap, ◌∙◌, subst, arith, inl, inr}
 use Rattle.std.proofs.lemmas.List.{length-map}
 use Rattle.std.proofs.lemmas.List.Elements.{All-map, All-weaker, All-get_or}
 use Rattle.iso_model.specs.declared.Kind.{Kind}
-use Rattle.iso_model.specs.Orders.{numbers}
 use Rattle.iso_model.specs.Cells.{HasDimension, edge_count}
 use Rattle.iso_model.specs.Turns.{slack, same_int}
-use Rattle.iso_model.specs.Hulls.{IsFacet, IsPulled, set_number}
+use Rattle.iso_model.specs.Hulls.{IsFacet, IsPulled}
 use Rattle.iso_model.specs.Entries.{label_edges, label_points, is_off_boundary, IsPulledTuple}
 use Rattle.case_patch.specs.FacetLists.{AreAllFacets}
 use Rattle.pulling_tri.specs.PointSets.{point_set}
@@ -18,6 +17,8 @@ use Rattle.case_patch.proofs.FacetSets.{facet_set, facet_ascends, number_facet, 
 use Rattle.case_patch.proofs.LabelPoints.{few_points, points_length, edges_below}
 use Rattle.case_patch.proofs.OffSets.{boundary_of, off_is}
 use Rattle.case_patch.proofs.PulledSame.{pulled_too}
+use Rattle.lists.specs.Orders.{numbers}
+use Rattle.lists.specs.Bits.{set_number}
 
 -- a facet's number is off the sets of the cell's facets where the facet is off the boundary
 facet_off : (kind : Kind) (d label : ℕ) (set : List ℕ) → HasDimension kind d → IsFacet d (label_points kind d label) set
@@ -42,7 +43,8 @@ tuples_are kind d label found has are tuple = (λ t. there t, λ t. back t)
     same : (set : List ℕ) → Contains (map point_set found) set ↔ IsFacet d (label_points kind d label) set
     same = facets_same d (label_points kind d label) found few are
 
-    there : IsTupleOfSome found (Contains (map point_set found)) (boundary_of kind d label) d (label_edges kind d label) tuple → IsPulledTuple kind d label tuple
+    there : IsTupleOfSome found (Contains (map point_set found)) (boundary_of kind d label) d (label_edges kind d label) tuple
+        → IsPulledTuple kind d label tuple
     there t =
         let n = number_facet d (label_points kind d label) found t.0 few are t.1 in
         let off : is_off_boundary kind d label n.set ≡ true =
@@ -68,23 +70,27 @@ tuples_are kind d label found has are tuple = (λ t. there t, λ t. back t)
             (
               t.simplex,
               subst (λ (s : List ℕ). IsPulled (Contains (map point_set found)) d s t.simplex) (sym set_is)
-                  (pulled_too (IsFacet d (label_points kind d label)) (Contains (map point_set found)) (λ s. ((same s).1, (same s).0)) d t.facet t.simplex t.is_pulled),
+                  (pulled_too (IsFacet d (label_points kind d label)) (Contains (map point_set found)) (λ s. ((same s).1, (same s).0)) d t.facet
+                       t.simplex t.is_pulled),
               (t.midpoints, t.named),
             ),
           ),
         )
 
 -- all that were added to an empty list
-pub found_tuples : (kind : Kind) (d label : ℕ) (found boundary es : List ℕ) (items : List (List ℕ)) → HasDimension kind d → AreAllFacets d (label_points kind d label) found
+pub found_tuples : (kind : Kind) (d label : ℕ) (found boundary es : List ℕ) (items : List (List ℕ)) → HasDimension kind d
+    → AreAllFacets d (label_points kind d label) found
     → boundary ≡ boundary_of kind d label → es ≡ label_edges kind d label → Adds (IsTupleOfSome found (Contains (map point_set found)) boundary d es) [] items
     → (tuple : List ℕ) → Contains items tuple ↔ IsPulledTuple kind d label tuple
-found_tuples kind d label found boundary es items has are b e adds tuple = (λ c. there ((whole.each tuple).0 c), λ t. (whole.each tuple).1 (inr ((tuples_are kind d label found has are tuple).1 t)))
+found_tuples kind d label found boundary es items has are b e adds tuple =
+    (λ c. there ((whole.each tuple).0 c), λ t. (whole.each tuple).1 (inr ((tuples_are kind d label found has are tuple).1 t)))
   where
     whole : Adds (IsTupleOfSome found (Contains (map point_set found)) (boundary_of kind d label) d (label_edges kind d label)) [] items
     whole = subst (λ (xs : List ℕ). Adds (IsTupleOfSome found (Contains (map point_set found)) (boundary_of kind d label) d xs) [] items) e
         (subst (λ (bs : List ℕ). Adds (IsTupleOfSome found (Contains (map point_set found)) bs d es) [] items) b adds)
 
-    there : Contains [] tuple ⊎ IsTupleOfSome found (Contains (map point_set found)) (boundary_of kind d label) d (label_edges kind d label) tuple → IsPulledTuple kind d label tuple
+    there : Contains [] tuple ⊎ IsTupleOfSome found (Contains (map point_set found)) (boundary_of kind d label) d (label_edges kind d label) tuple
+        → IsPulledTuple kind d label tuple
     there (inl o) = absurd (let h : o.0 < 0 = o.1 in omega arith)
     there (inr t) = (tuples_are kind d label found has are tuple).0 t
 

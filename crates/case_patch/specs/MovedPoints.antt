@@ -2,9 +2,9 @@
 use Rattle.std.specs.Prelude.{◌≡◌, ℕ, ◌+◌, ◌-◌, nat_lt, nat_eq, List, map, length, slice_index, if◌then◌else◌}
 use Rattle.std.specs.List.{position_or_len}
 use Rattle.iso_model.specs.declared.Kind.TheVariants.{Cube}
-use Rattle.iso_model.specs.Orders.{numbers}
 use Rattle.iso_model.specs.Entries.{label_edges, label_corners, label_points}
 use Rattle.iso_model.specs.Moves.{Move, Carries, move_corner, move_edge}
+use Rattle.lists.specs.Orders.{numbers}
 
 -- the place of a number in a list
 abbrev pub place : List ℕ → ℕ → ℕ

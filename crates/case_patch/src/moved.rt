@@ -2,12 +2,12 @@
 
 ghost use Rattle.std.specs.Prelude.{◌≡◌, ◌+◌, ◌^◌, ◌<◌, ◌≤◌, All, IfOk, length, map, filter, slice_index};
 ghost use Rattle.iso_model.specs.declared.Kind.{Kind};
-ghost use Rattle.iso_model.specs.Orders.{numbers};
-ghost use Rattle.iso_model.specs.Cells.{is_set, edge_count};
-ghost use Rattle.iso_model.specs.Hulls.{set_number};
+ghost use Rattle.iso_model.specs.Cells.{edge_count};
 ghost use Rattle.iso_model.specs.Moves.{IsMove};
-ghost use Rattle.cell_lattice.specs.Dimensions.{IsDimension};
 ghost use Rattle.case_patch.specs.MovedPoints.{place, carried_among, AreCarriedNumbers};
+ghost use Rattle.lists.specs.Orders.{numbers};
+ghost use Rattle.lists.specs.Bits.{is_set, set_number};
+ghost use Rattle.iso_model.specs.Dimensions.{IsDimension};
 
 use crate::boundary::add_set;
 use crate::points::{add_number, bipolar_edges, positive_corners};

@@ -1,6 +1,6 @@
 //! The entry of a labelling.
 
-ghost use Rattle.std.specs.Prelude.{◌≡◌, ◌↔◌, ◌⊎◌, ℕ, ◌^◌, ◌<◌, ◌≤◌, ◌++◌, ◌∷◌, [], List, All, Contains, IfOk, IfSome, IfNone, OnOk, length, map};
+ghost use Rattle.std.specs.Prelude.{◌≡◌, ◌↔◌, ℕ, ◌^◌, ◌<◌, ◌≤◌, ◌++◌, ◌∷◌, [], List, All, Contains, IfOk, IfSome, IfNone, OnOk, length, map};
 ghost use Rattle.iso_model.specs.declared.Kind.{Kind};
 ghost use Rattle.iso_model.specs.Entries.{IsEntryOf, IsPulledTuple, label_points};
 ghost use Rattle.iso_model.specs.Moves.{IsMove, Carries};
@@ -8,6 +8,7 @@ ghost use Rattle.halfspace.specs.Choices.{AreFacetNumbers};
 ghost use Rattle.pulling_tri.specs.PointSets.{point_set};
 ghost use Rattle.case_patch.specs.FacetLists.{AreAllFacets};
 ghost use Rattle.case_patch.specs.Tuples.{Adds, IsNamed, IsTupleOf, IsOffTuple, IsTupleOfSome, IsOrdered};
+ghost use Rattle.iso_model.specs.Dimensions.{IsDimension};
 
 use crate::boundary::{boundary_sets, lies_off};
 use crate::facets::hull;
@@ -69,7 +70,7 @@ fn add_facet<const D: usize>(
     edges: &[u8],
     tuples: &mut Vec<[u8; D]>,
 ) -> Result<(), Memory>
-    requires { (D ≡ 2) ⊎ ((D ≡ 3) ⊎ (D ≡ 4)) }
+    requires { IsDimension D }
     ensures { OnOk result (Adds (IsTupleOf (Contains (map point_set facets.now)) D edges.now (point_set facet)) tuples.old.items tuples.new.items) }
 {
     let simplices = pull::<D>(alloc, facets, facet)?;
@@ -88,7 +89,7 @@ fn add_if_off<const D: usize>(
     edges: &[u8],
     tuples: &mut Vec<[u8; D]>,
 ) -> Result<(), Memory>
-    requires { (D ≡ 2) ⊎ ((D ≡ 3) ⊎ (D ≡ 4)) }
+    requires { IsDimension D }
     ensures { OnOk result (Adds (IsOffTuple (Contains (map point_set facets.now)) boundary.now D edges.now facet) tuples.old.items tuples.new.items) }
 {
     if lies_off(facet, boundary) {
@@ -104,7 +105,7 @@ fn off_tuples<const D: usize>(
     boundary: &[u64],
     edges: &[u8],
 ) -> Result<Vec<[u8; D]>, Memory>
-    requires { (D ≡ 2) ⊎ ((D ≡ 3) ⊎ (D ≡ 4)) }
+    requires { IsDimension D }
     ensures { IfOk result (λ tuples. Adds (IsTupleOfSome facets.now (Contains (map point_set facets.now)) boundary.now D edges.now) [] tuples.items) }
 {
     let mut tuples = Vec::new(alloc);
@@ -133,7 +134,7 @@ fn pulled_tuples<C: Cell<D>, const D: usize>(
 
 // Puts tuples in ascending order, each once.
 fn put_in_order<const D: usize>(tuples: &mut Vec<[u8; D]>)
-    requires dimension { (D ≡ 2) ⊎ ((D ≡ 3) ⊎ (D ≡ 4)) }
+    requires dimension { IsDimension D }
     requires wide { (tuple : List ℕ) → Contains tuples.old.items tuple → length tuple ≡ D }
     ensures { IsOrdered tuples.old.items tuples.new.items }
 {

@@ -1,5 +1,6 @@
 -- The bits of a label whose corners are exchanged in pairs.
-use Rattle.std.specs.Prelude.{◌≡◌, ℕ, zero, suc, ◌+◌, ◌-◌, ◌*◌, ◌/◌, ◌%◌, ◌^◌, ◌<◌, ◌≤◌, min, max, Bool, true, false, not, ◌&&◌, ◌||◌, nat_lt, nat_le, cond, bit_and, bit_or}
+use Rattle.std.specs.Prelude.{◌≡◌, ℕ, zero, suc, ◌+◌, ◌-◌, ◌*◌, ◌/◌, ◌%◌, ◌^◌, ◌<◌, ◌≤◌, min, max, Bool, true, false, not, ◌&&◌, ◌||◌, nat_lt, nat_le}
+use Rattle.std.specs.Prelude.{cond, bit_and, bit_or}
 use Rattle.std.specs.Int.{bit_at}
 use Rattle.std.proofs.Common.{refl, sym, ap, ◌∙◌, subst, arith}
 use Rattle.std.proofs.lemmas.Bool.{eqb-true, eqb-false, and_parts}
@@ -7,9 +8,9 @@ use Rattle.std.proofs.lemmas.Bool.Decides.{nat_tests}
 use Rattle.std.proofs.lemmas.Nat.{shr-shr, shr_split, pow_pos, and_le_l}
 use Rattle.std.proofs.lemmas.Nat.Bits.{bit_at_cat_low, bit_at_cat_high, bit_at-lt, bit_at-zero, bit_at_above, bit_at_and, bit_at_or, same_from_bits}
 use Rattle.std.proofs.Math.Nat.{mod-eq_of_lt, mod-lt, mul-le-mul, pow-le-pow_right}
-use Rattle.iso_model.specs.Cells.{is_set}
 use Rattle.cube_moves.specs.declared.words.Exchange.{Exchange}
 use Rattle.cube_moves.specs.Exchanges.{IsExchange, partner, is_free}
+use Rattle.lists.specs.Bits.{is_set}
 
 -- ---- bits of shifted numbers
 
@@ -54,7 +55,8 @@ whole w x small near =
 raised-bit : (w : ℕ) (x : Exchange) (c : ℕ) → bit_at (bit_and w x.lower * 2 ^ x.shift) c ≡ raised w x c
 raised-bit w x c = by_place (nat_lt c x.shift) refl
   where
-    by_place : (t : Bool) → nat_lt c x.shift ≡ t → bit_at (bit_and w x.lower * 2 ^ x.shift) c ≡ cond t 0 (min (bit_at w (c - x.shift)) (bit_at x.lower (c - x.shift)))
+    by_place : (t : Bool) → nat_lt c x.shift ≡ t
+        → bit_at (bit_and w x.lower * 2 ^ x.shift) c ≡ cond t 0 (min (bit_at w (c - x.shift)) (bit_at x.lower (c - x.shift)))
     by_place true e = let h : c < x.shift = grind (arith, nat_tests) in shl-bit_low (bit_and w x.lower) x.shift c h
     by_place false e = let h : x.shift ≤ c = grind (arith, nat_tests) in shl-bit_high (bit_and w x.lower) x.shift c h ∙ bit_at_and w x.lower (c - x.shift)
 
@@ -87,7 +89,8 @@ unset-bit n c e = let l = bit_at-lt n c in let f = eqb-false (bit_at n c) 1 e in
 free-raised : (w : ℕ) (x : Exchange) (c : ℕ) → is_free x c ≡ true → raised w x c ≡ 0
 free-raised w x c free = by_place (nat_lt c x.shift) (is_set x.lower (c - x.shift)) refl free
   where
-    by_place : (t u : Bool) → is_set x.lower (c - x.shift) ≡ u → (t || not u) ≡ true → cond t 0 (min (bit_at w (c - x.shift)) (bit_at x.lower (c - x.shift))) ≡ 0
+    by_place : (t u : Bool) → is_set x.lower (c - x.shift) ≡ u → (t || not u) ≡ true
+        → cond t 0 (min (bit_at w (c - x.shift)) (bit_at x.lower (c - x.shift))) ≡ 0
     by_place true u e f = refl
     by_place false true e f = absurd (cc)
     by_place false false e f = let z = unset-bit x.lower (c - x.shift) e in omega arith
@@ -107,7 +110,8 @@ exchanged_signs d w x small is c below =
   where
     by_set : (k l : Bool) → is_set x.kept c ≡ k → is_set x.lower c ≡ l
         → cond k (not l && is_free x c) (cond l (nat_lt (c + x.shift) (2 ^ d) && is_free x c) (nat_le x.shift c && is_set x.lower (c - x.shift))) ≡ true
-        → max (max (min (bit_at w c) (bit_at x.kept c)) (raised w x c)) (min (bit_at w (c + x.shift)) (bit_at x.lower c)) ≡ bit_at w (cond k c (cond l (c + x.shift) (c - x.shift)))
+        → max (max (min (bit_at w c) (bit_at x.kept c)) (raised w x c)) (min (bit_at w (c + x.shift)) (bit_at x.lower c))
+            ≡ bit_at w (cond k c (cond l (c + x.shift) (c - x.shift)))
     by_set true true e f g = absurd (cc)
     by_set true false e f g =
         let y = free-raised w x c g in
@@ -156,7 +160,8 @@ exchanged_below d w x small in_label is =
     raised_none : (c : ℕ) → 2 ^ d ≤ c → raised w x c ≡ 0
     raised_none c above = by_place (nat_lt c x.shift) (nat_lt (c - x.shift) (2 ^ d)) refl refl
       where
-        by_place : (t u : Bool) → nat_lt c x.shift ≡ t → nat_lt (c - x.shift) (2 ^ d) ≡ u → cond t 0 (min (bit_at w (c - x.shift)) (bit_at x.lower (c - x.shift))) ≡ 0
+        by_place : (t u : Bool) → nat_lt c x.shift ≡ t → nat_lt (c - x.shift) (2 ^ d) ≡ u
+            → cond t 0 (min (bit_at w (c - x.shift)) (bit_at x.lower (c - x.shift))) ≡ 0
         by_place true u e f = refl
         by_place false true e f =
             let up : x.shift ≤ c = grind (arith, nat_tests) in

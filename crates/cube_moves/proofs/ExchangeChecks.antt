@@ -4,15 +4,15 @@ use Rattle.std.specs.List.{list_all}
 use Rattle.std.specs.Int.{bit_at, w64, trailing_zeros}
 use Rattle.std.proofs.Common.{refl, sym, ap, ◌∙◌, arith}
 use Rattle.std.proofs.lemmas.Bool.{and_parts, ltb-true, leb-true, eqb-true}
-use Rattle.iso_model.specs.Orders.{numbers, orders}
-use Rattle.iso_model.specs.Cells.{is_set}
 use Rattle.iso_model.specs.Moves.{Move, Carries, move_corner}
-use Rattle.cell_lattice.specs.Dimensions.{IsDimension, in_each_dimension}
 use Rattle.cube_moves.specs.declared.words.Exchange.{Exchange}
 use Rattle.cube_moves.specs.declared.tables.TheConstants.{FLIPS, SWAPS, STEPS, COUNTS}
 use Rattle.cube_moves.specs.Exchanges.{IsExchange, partner, fits_at}
 use Rattle.cube_moves.proofs.MovedBits.{order_alone, flips_alone, corner-below}
 use Rattle.cube_moves.proofs.OrderChecks.{each_below}
+use Rattle.lists.specs.Orders.{numbers, orders}
+use Rattle.lists.specs.Bits.{is_set}
+use Rattle.iso_model.specs.Dimensions.{IsDimension, in_each_dimension}
 
 -- ---- exchanges
 
@@ -37,7 +37,8 @@ pub record HasSigns (d : ℕ) (x : Exchange) (w r : ℕ) : Type 0 where
   pub signs : (c : ℕ) → c < 2 ^ d → bit_at r c ≡ bit_at w (partner x c)
 
 -- a label that is carried goes on by an exchange
-carried_on : (d : ℕ) (x : Exchange) (to from : Move) (label w r : ℕ) → HasSigns d x w r → leads d x to from ≡ true → Carries d from label w → Carries d to label r
+carried_on : (d : ℕ) (x : Exchange) (to from : Move) (label w r : ℕ) → HasSigns d x w r → leads d x to from ≡ true → Carries d from label w
+    → Carries d to label r
 carried_on d x to from label w r has all carries = (
   has.below,
   λ k h. ap (λ (b : ℕ). b == 1)
@@ -64,7 +65,8 @@ pub record FlipStep (d f : ℕ) : Type 0 where
   pub axis : trailing_zeros w64 f < 4
   pub earlier : fewer f < f
   pub exchange : IsExchange d (flip_at (trailing_zeros w64 f))
-  pub carried : (label w r : ℕ) → HasSigns d (flip_at (trailing_zeros w64 f)) w r → Carries d (flips_alone d (fewer f)) label w → Carries d (flips_alone d f) label r
+  pub carried : (label w r : ℕ) → HasSigns d (flip_at (trailing_zeros w64 f)) w r → Carries d (flips_alone d (fewer f)) label w
+      → Carries d (flips_alone d f) label r
 
 flip_steps : (d : ℕ) → IsDimension d → (f : ℕ) → f < 2 ^ d - 1 → flip_step d (f + 1) ≡ true
 unfolding flip_step lib.Count.count_trailing_zeros
@@ -110,7 +112,8 @@ pub record OrderStep (d n : ℕ) : Type 0 where
   pub swap : (step_at d n).1 < 6
   pub earlier : (step_at d n).0 < n
   pub exchange : IsExchange d (swap_at (step_at d n).1)
-  pub carried : (label w r : ℕ) → HasSigns d (swap_at (step_at d n).1) w r → Carries d (order_alone (order_of d (step_at d n).0)) label w → Carries d (order_alone (order_of d n)) label r
+  pub carried : (label w r : ℕ) → HasSigns d (swap_at (step_at d n).1) w r → Carries d (order_alone (order_of d (step_at d n).0)) label w
+      → Carries d (order_alone (order_of d n)) label r
 
 order_steps : (d : ℕ) → IsDimension d → (n : ℕ) → n < length (orders d) - 1 → order_step d (n + 1) ≡ true
 unfolding order_step
@@ -153,7 +156,13 @@ stays d = list_all (λ k. move_corner d (flips_alone d 0) k == k) (numbers (2 ^ 
 pub flips_none : (d : ℕ) → IsDimension d → (label : ℕ) → label < 2 ^ (2 ^ d) → Carries d (flips_alone d 0) label label
 unfolding stays
 flips_none d is label below =
-    (below, λ k h. ap (is_set label) (eqb-true _ _ (each_below (λ k. move_corner d (flips_alone d 0) k == k) (2 ^ d) (in_each_dimension (λ n. stays n ≡ true) refl refl refl d is) k h)))
+    (
+      below,
+      λ k h.
+          ap (is_set label)
+              (eqb-true _ _
+                   (each_below (λ k. move_corner d (flips_alone d 0) k == k) (2 ^ d) (in_each_dimension (λ n. stays n ≡ true) refl refl refl d is) k h))
+    )
 
 pub first_order : (d : ℕ) → IsDimension d → order_of d 0 ≡ numbers d
 first_order = in_each_dimension (λ d. order_of d 0 ≡ numbers d) refl refl refl

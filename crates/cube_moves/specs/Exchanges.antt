@@ -1,7 +1,7 @@
 -- Exchanges of corners in pairs.
 use Rattle.std.specs.Prelude.{◌≡◌, ℕ, ◌+◌, ◌-◌, ◌^◌, ◌<◌, ◌≤◌, Bool, true, not, ◌&&◌, ◌||◌, nat_lt, nat_le, if◌then◌else◌}
-use Rattle.iso_model.specs.Cells.{is_set}
 use Rattle.cube_moves.specs.declared.words.Exchange.{Exchange}
+use Rattle.lists.specs.Bits.{is_set}
 
 -- the corner with which a corner is exchanged
 abbrev pub partner : Exchange → ℕ → ℕ

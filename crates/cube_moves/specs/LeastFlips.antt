@@ -1,7 +1,7 @@
 -- The least label that flips reach without a change of the order of axes.
 use Rattle.std.specs.Prelude.{ℕ, ◌^◌, ◌<◌, ◌≤◌}
-use Rattle.iso_model.specs.Orders.{numbers}
 use Rattle.iso_model.specs.Moves.{Move, Carries}
+use Rattle.lists.specs.Orders.{numbers}
 
 -- flips of the axes in their order
 abbrev pub flip_move : ℕ → ℕ → Move

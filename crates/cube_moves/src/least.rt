@@ -2,8 +2,8 @@
 
 ghost use Rattle.std.specs.Prelude.{◌^◌, ◌<◌};
 ghost use Rattle.iso_model.specs.Moves.{IsLeastLabel};
-ghost use Rattle.cell_lattice.specs.Dimensions.{IsDimension};
 ghost use Rattle.cube_moves.specs.LeastFlips.{IsLeastFlip};
+ghost use Rattle.iso_model.specs.Dimensions.{IsDimension};
 
 use crate::moves::Move;
 use crate::tables::COUNTS;

@@ -5,8 +5,8 @@ ghost use Rattle.std.specs.Int.{bit_at};
 ghost use Rattle.iso_model.specs.declared.Kind.{Kind};
 ghost use Rattle.iso_model.specs.Cells.{edge_count, edge_between};
 ghost use Rattle.iso_model.specs.Moves.{IsMove, Carries, move_corner, move_edge};
-ghost use Rattle.cell_lattice.specs.Dimensions.{IsDimension};
 ghost use Rattle.cube_moves.specs.Joined.{IsJoined};
+ghost use Rattle.iso_model.specs.Dimensions.{IsDimension};
 
 use cell_lattice::cube_edge;
 

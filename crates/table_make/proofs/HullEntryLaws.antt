@@ -1,30 +1,44 @@
 -- An entry of the construction is one that a table may hold, and the entries of all labels make a table.
-use Rattle.std.specs.Prelude.{◌≡◌, ◌^◌, ◌<◌, ◌≤◌, ℕ, suc, pos, Bool, true, false, int_lt, List, [], ◌∷◌, length, slice_index, slice_index_or, All}
-use Rattle.std.specs.Prelude.{Contains, if◌then◌else◌}
-use Rattle.std.proofs.Common.{refl, sym, ap, ◌∙◌, subst, arith}
-use Rattle.std.proofs.lemmas.List.{length-map}
+use Rattle.std.specs.Prelude.{◌≡◌, ◌⊎◌, ◌+◌, ◌-◌, ◌^◌, ◌<◌, ◌≤◌, ◌++◌, ℕ, suc, pos, Bool, true, false, int_lt, List, [], ◌∷◌, length, slice_index}
+use Rattle.std.specs.Prelude.{slice_index_or, All, Contains, if◌then◌else◌}
+use Rattle.std.proofs.Common.{refl, sym, ap, ◌∙◌, subst, arith, inl, inr, length-append}
+use Rattle.std.proofs.lemmas.Bool.{cases_lt}
+use Rattle.std.proofs.lemmas.List.{length-map, get_or_append_left, get_or-append_right}
 use Rattle.std.proofs.lemmas.List.Elements.{All-nil, All-cons, All-head, All-tail, All-map, All-weaker, All-from_get_or}
 use Rattle.iso_model.specs.declared.Kind.{Kind}
-use Rattle.lists.specs.Orders.{exchange_last}
 use Rattle.iso_model.specs.Cells.{HasDimension, edge_count, label_count}
 use Rattle.iso_model.specs.Acceptance.{side_turn}
 use Rattle.iso_model.specs.Tables.{IsTuple, IsEntry, IsTable}
 use Rattle.iso_model.specs.Entries.{oriented, IsEntryOf}
 use Rattle.iso_model.proofs.DimensionLaws.{is_small_cell, dimension_cases}
-use Rattle.iso_model.specs.Dimensions.{in_each_dimension}
 use Rattle.case_patch.proofs.PulledTuples.{tuple_wide, tuple_edges}
 use Rattle.table_make.specs.HullEntries.{AreHullEntries}
 use Rattle.table_make.proofs.Fewness.{IsDigits, few_tuples}
+use Rattle.lists.specs.Orders.{exchange_last}
 use Rattle.lists.proofs.Contained.{All-from_each}
-use Rattle.lists.proofs.Sorting.{length-exchange, All-exchange_last}
+use Rattle.iso_model.specs.Dimensions.{in_each_dimension}
 
 -- ---- an exchange of the last two places keeps what holds of each
+
+exchanged_length : (w : List ℕ) → length (exchange_last w) ≡ length w
+exchanged_length [] = refl
+exchanged_length (x ∷ []) = refl
+exchanged_length (x ∷ y ∷ []) = refl
+exchanged_length (x ∷ y ∷ z ∷ w) = ap suc (exchanged_length (y ∷ z ∷ w))
+
+exchanged_all : (P : ℕ → Type 0) (w : List ℕ) → All P w → All P (exchange_last w)
+exchanged_all P [] a = a
+exchanged_all P (x ∷ []) a = a
+exchanged_all P (x ∷ y ∷ []) a =
+    All-cons P y (x ∷ []) (All-head P y [] (All-tail P x (y ∷ []) a)) (All-cons P x [] (All-head P x (y ∷ []) a) (All-nil P))
+exchanged_all P (x ∷ y ∷ z ∷ w) a =
+    All-cons P x (exchange_last (y ∷ z ∷ w)) (All-head P x (y ∷ z ∷ w) a) (exchanged_all P (y ∷ z ∷ w) (All-tail P x (y ∷ z ∷ w) a))
 
 oriented_tuple : (kind : Kind) (d label : ℕ) (w : List ℕ) → IsTuple kind d w → IsTuple kind d (oriented kind d label w)
 oriented_tuple kind d label w t = by_test (int_lt (side_turn kind d label w (slice_index w 0)) (pos 0))
   where
     by_test : (b : Bool) → IsTuple kind d (if b then exchange_last w else w)
-    by_test true = (length-exchange w ∙ t.0, All-exchange_last (λ e. e < edge_count kind d) w t.1)
+    by_test true = (exchanged_length w ∙ t.0, exchanged_all (λ e. e < edge_count kind d) w t.1)
     by_test false = t
 
 -- ---- an entry
@@ -64,3 +78,22 @@ entries_table kind d n entries has e are = record {
       All-from_get_or (IsEntry kind d) entries []
           (λ label h. entry_sound kind d label (slice_index_or entries label []) has (are.each label (let c = are.count in omega arith)));
 }
+
+-- one entry more
+pub one_more_entry : (kind : Kind) (d n : ℕ) (entries more : List (List (List ℕ))) (entry : List (List ℕ)) → AreHullEntries kind d n entries
+    → IsEntryOf kind d n entry → more ≡ entries ++ entry ∷ []
+    → AreHullEntries kind d (n + 1) more
+one_more_entry kind d n entries more entry are is e = record {
+  count = ap length e ∙ length-append entries (entry ∷ []) ∙ ap (λ (k : ℕ). k + 1) are.count;
+  each = λ label h. subst (λ (es : List (List (List ℕ))). IsEntryOf kind d label (slice_index_or es label [])) (sym e) (by_place label (cases_lt label n) h);
+}
+  where
+    by_place : (label : ℕ) → (label < n) ⊎ (n ≤ label) → label < n + 1 → IsEntryOf kind d label (slice_index_or (entries ++ entry ∷ []) label [])
+    by_place label (inl l) h =
+        subst (IsEntryOf kind d label) (sym (get_or_append_left entries (entry ∷ []) [] label (let c = are.count in omega arith))) (are.each label l)
+    by_place label (inr l) h =
+        let s : n ≡ label = omega arith in
+        let z : label - n ≡ 0 = omega arith in
+        subst (λ (k : ℕ). IsEntryOf kind d k (slice_index_or (entries ++ entry ∷ []) label [])) s
+        (subst (IsEntryOf kind d n)
+             (sym (get_or-append_right entries (entry ∷ []) n label [] are.count l ∙ ap (λ (k : ℕ). slice_index_or (entry ∷ []) k []) z)) is)

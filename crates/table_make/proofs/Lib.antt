@@ -1,2 +1,3 @@
 pub mod Fewness
 pub mod HullEntryLaws
+pub mod ClassHullLaws

@@ -1,1 +1,2 @@
 pub mod HullEntries
+pub mod ClassHulls

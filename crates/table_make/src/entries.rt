@@ -1,11 +1,14 @@
 //! The entries of all labellings.
 
 ghost use Rattle.std.specs.Prelude.{◌≡◌, ◌^◌, ◌++◌, ◌∷◌, [], IfOk, OnOk, map};
+ghost use Rattle.iso_model.specs.declared.Kind.{Kind};
 ghost use Rattle.table_make.specs.HullEntries.{AreHullEntries};
 ghost use Rattle.iso_model.specs.Dimensions.{IsDimension};
 
-use case_patch::patch;
-use cell_lattice::Cell;
+use crate::classes::{hull_place, no_places};
+use case_patch::{patch, patch_moved};
+use cell_lattice::{Cell, Kind};
+use cube_moves::least_label;
 use iso_base::Memory;
 use std::alloc::Global;
 
@@ -29,10 +32,8 @@ fn add_entry<const D: usize>(
     }
 }
 
-// The entry of each labelling, from label 0 on.
-pub(crate) fn hull_entries<C: Cell<D>, const D: usize>(
-    alloc: Global,
-) -> Result<Vec<Vec<[u8; D]>>, Memory>
+// The entry of each labelling, from label 0 on, from a hull of its own.
+fn entries_alone<C: Cell<D>, const D: usize>(alloc: Global) -> Result<Vec<Vec<[u8; D]>>, Memory>
     ensures { IfOk result (λ entries. AreHullEntries C.KIND D (2 ^ C.CORNERS) (map (λ entry. entry.items) entries.items)) }
 {
     let mut entries = Vec::new(alloc);
@@ -41,4 +42,35 @@ pub(crate) fn hull_entries<C: Cell<D>, const D: usize>(
         add_entry(&mut entries, entry)?;
     }
     Ok(entries)
+}
+
+// The same for a cube, from one hull for each class of labellings.
+fn entries_by_classes<C: Cell<D>, const D: usize>(
+    alloc: Global,
+) -> Result<Vec<Vec<[u8; D]>>, Memory>
+    requires { C.KIND ≡ Kind.Cube }
+    ensures { IfOk result (λ entries. AreHullEntries C.KIND D (2 ^ C.CORNERS) (map (λ entry. entry.items) entries.items)) }
+{
+    let mut places = no_places(alloc, labels::<C, D>())?;
+    let mut hulls = Vec::new(alloc);
+    let mut entries = Vec::new(alloc);
+    for label in 0..labels::<C, D>() {
+        let (class, by) = least_label::<D>(label);
+        let place = hull_place::<C, D>(alloc, class, &mut places, &mut hulls)?;
+        let entry = patch_moved::<C, D>(alloc, label, &by, &hulls[place])?;
+        add_entry(&mut entries, entry)?;
+    }
+    Ok(entries)
+}
+
+// The entry of each labelling, from label 0 on.
+pub(crate) fn hull_entries<C: Cell<D>, const D: usize>(
+    alloc: Global,
+) -> Result<Vec<Vec<[u8; D]>>, Memory>
+    ensures { IfOk result (λ entries. AreHullEntries C.KIND D (2 ^ C.CORNERS) (map (λ entry. entry.items) entries.items)) }
+{
+    match C::KIND {
+        Kind::Cube => entries_by_classes::<C, D>(alloc),
+        _ => entries_alone::<C, D>(alloc),
+    }
 }

@@ -2,6 +2,7 @@
 //! patch. After Bhaniramka, Wenger and Crawfis, "Isosurface construction in any dimension using convex hulls" (2004).
 #![tactic(auto)]
 
+mod classes;
 mod entries;
 mod generated;
 #[cfg(test)]

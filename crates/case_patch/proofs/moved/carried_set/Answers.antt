@@ -1,10 +1,10 @@
 use Rattle.std.proofs.Common.{◌<◌, ◌∙◌, sym, arith, get_or}
 use Rattle.std.proofs.lemmas.Bool.{eq-eqb, ne_eqb}
 use Rattle.std.proofs.lemmas.Nat.Bits.{shr_and_one}
-use Rattle.iso_model.specs.Cells.{is_set}
-use Rattle.halfspace.proofs.SetNumbers.{number_with, number_without}
 use Rattle.case_patch.proofs.moved.carried_set.Goals as goal
 use Rattle.case_patch.proofs.moved.carried_set.Goals.{then-set-list-eq1, else-set-list-eq1}
+use Rattle.lists.specs.Bits.{is_set}
+use Rattle.halfspace.proofs.TightNumbers.{number_with, number_without}
 
 pub loop-point-preserved : goal.loop-point-preserved
 loop-point-preserved c =

@@ -1,7 +1,6 @@
 use Rattle.std.proofs.Common.{◌≡◌, filter, get_or}
-use Rattle.iso_model.specs.Orders.{numbers}
-use Rattle.iso_model.specs.Cells.{is_set}
-use Rattle.iso_model.specs.Hulls.{set_number}
+use Rattle.lists.specs.Orders.{numbers}
+use Rattle.lists.specs.Bits.{is_set, set_number}
 use Rattle.case_patch.proofs.moved.carried_set.Given as goal
 
 -- the number of the points so far of which the numbers are members

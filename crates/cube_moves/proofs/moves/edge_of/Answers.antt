@@ -2,12 +2,12 @@ use Rattle.std.proofs.Common.{ℕ, ◌≡◌, ◌<◌, [], arith, refl, sym, ap,
 use Rattle.iso_model.specs.declared.Kind.TheVariants.{Cube}
 use Rattle.iso_model.specs.Cells.{HasDimension, edge_count, edge_ends, edge_between}
 use Rattle.cell_lattice.specs.CellLemmas.{found_by_ends}
-use Rattle.cell_lattice.specs.Dimensions.{IsDimension}
 use Rattle.cell_lattice.specs.Agreement.{agree_in_each}
 use Rattle.cube_moves.specs.declared.moves.TheConstants.{BETWEEN}
 use Rattle.cube_moves.proofs.MovedEdges.{edge_step}
 use Rattle.cube_moves.proofs.OrderChecks.{few_axes}
 use Rattle.cube_moves.proofs.ExchangeChecks.{few_flips}
+use Rattle.iso_model.specs.Dimensions.{IsDimension}
 use Rattle.cube_moves.proofs.moves.edge_of.Goals as goal
 
 -- the numbers as the code has them

@@ -1,6 +1,6 @@
 use Rattle.std.proofs.Common.{map}
 use Rattle.table_make.specs.HullEntries.{AreHullEntries}
-use Rattle.table_make.proofs.entries.hull_entries.Given as goal
+use Rattle.table_make.proofs.entries.entries_alone.Given as goal
 
 -- the entries of the labels so far
 abbrev pub invariant-loop-label : goal.invariant-loop-label
