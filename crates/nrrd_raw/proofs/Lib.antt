@@ -2,6 +2,7 @@ pub mod ContentLaws
 pub mod FirstLaws
 pub mod Counts
 pub mod FrontLaws
+pub mod GridLaws
 pub mod JudgeLaws
 pub mod LineEndLaws
 pub mod MagicLaws

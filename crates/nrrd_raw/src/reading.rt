@@ -14,16 +14,13 @@ ghost use Rattle.nrrd_raw.specs.Shapes.{InRange};
 use crate::decode::write_samples;
 use crate::faults::GridFault;
 use crate::fronts::take_front;
-use crate::grids::Grid;
+use crate::grids::{Grid, SAMPLE_LIMIT, area};
 use crate::headers::Header;
 use crate::judge::header_of;
 use crate::pieces::{fill, take_byte};
 use arrayvec::ArrayVec;
 use iso_base::Shelf;
 use std::alloc::Global;
-
-/// The most samples that a grid has.
-const SAMPLE_LIMIT: u128 = 1 << 27;
 
 /// The bytes that are taken at a time, a number of whole samples of each width.
 const PIECE: usize = 1 << 16;
@@ -85,13 +82,6 @@ fn sample_count(header: &Header) -> u128
 {
     let sizes = &header.sizes;
     area(sizes[0], sizes[1]) * area(sizes[2], sizes[3])
-}
-
-/// The product of two sizes.
-fn area(a: u64, b: u64) -> u128
-    ensures { result ≡ a * b }
-{
-    u128::from(a) * u128::from(b)
 }
 
 /// Takes so many samples, piece by piece, and sees that the file ends behind them.

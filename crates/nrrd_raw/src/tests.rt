@@ -2,7 +2,7 @@
 
 ghost use Rattle.std.specs.Prelude.{None};
 
-use crate::{Field, GridFault, Header, read_grid, read_header, read_samples};
+use crate::{Field, Grid, GridFault, Header, read_grid, read_header, read_samples};
 use iso_base::{Failed, Shelf};
 use std::alloc::Global;
 use std::process::Abort;
@@ -414,5 +414,39 @@ fn samples_are_read_behind_a_header(rt: HostRuntime) -> Result<(), Fail> {
     assert_eq!(rt; grid.dims, 2);
     assert_eq!(rt; grid.sizes, [1, 3, 1, 1]);
     assert_eq!(rt; grid.samples.as_slice(), [0, 127, -128].as_slice());
+    Ok(())
+}
+
+#[test]
+fn a_grid_is_made_exactly_where_it_is_regular(rt: HostRuntime) -> Result<(), Fail> {
+    let cases: [(&[u64], &[i64], bool); 13] = [
+        (&[2, 1], &[-2147483648, 4294967295], true),
+        (&[1, 3, 1], &[5, -6, 7], true),
+        (&[1, 1, 1, 1], &[0], true),
+        (&[], &[0], false),
+        (&[1], &[0], false),
+        (&[1, 1, 1, 1, 1], &[0], false),
+        (&[2, 0], &[], false),
+        (&[4294967296, 1], &[0], false),
+        (&[65536, 65536, 65536, 65536], &[], false),
+        (&[2, 2], &[0, 0, 0], false),
+        (&[2, 2], &[0, 0, 0, 0, 0], false),
+        (&[1, 1], &[-2147483649], false),
+        (&[1, 1], &[4294967296], false),
+    ];
+    for (sizes, samples, accepted) in cases {
+        match Grid::new(sizes, Vec::from_slice(rt.alloc(), samples)?) {
+            Ok(grid) => {
+                assert!(rt; accepted, "{sizes:?}");
+                assert_eq!(rt; usize::from(grid.dims), sizes.len());
+                assert_eq!(rt; &grid.sizes[..sizes.len()], sizes);
+                assert_eq!(rt; grid.samples.as_slice(), samples);
+            }
+            Err(back) => {
+                assert!(rt; !accepted, "{sizes:?}");
+                assert_eq!(rt; back.as_slice(), samples);
+            }
+        }
+    }
     Ok(())
 }
