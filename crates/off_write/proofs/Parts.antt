@@ -27,15 +27,15 @@ pub front_in_simplices : (a b c : Option (List ℕ)) (d : ℕ) (m : Mesh) (first
 front_in_simplices a b c d m first second e p q =
     let lines = simplex_lines d m.simplices in
     rw (← text_is d m, ← e)
-        (waits_front a b c ((first ++ vertex_lines m.vertices) ++ lines) (second ++ lines)
-             (waits_more a b (first ++ vertex_lines m.vertices) second lines p) q)
+    (waits_front a b c ((first ++ vertex_lines m.vertices) ++ lines) (second ++ lines)
+    (waits_more a b (first ++ vertex_lines m.vertices) second lines p) q)
 
 -- the last page waits
 pub last_waits : (a b c : Option (List ℕ)) (d : ℕ) (m : Mesh) (first second third : List ℕ) → first ≡ head d (length m.vertices) (length m.simplices)
     → AllButPage a b (first ++ vertex_lines m.vertices) second → AllButPage b c (second ++ simplex_lines d m.simplices) third
-        → AllButPage a c (mesh_text d m) third
+    → AllButPage a c (mesh_text d m) third
 last_waits a b c d m first second third e p q =
     let lines = simplex_lines d m.simplices in
     rw (← text_is d m, ← e)
-        (waits_on a b c ((first ++ vertex_lines m.vertices) ++ lines) (second ++ lines) third
-             (waits_more a b (first ++ vertex_lines m.vertices) second lines p) q)
+    (waits_on a b c ((first ++ vertex_lines m.vertices) ++ lines) (second ++ lines) third
+    (waits_more a b (first ++ vertex_lines m.vertices) second lines p) q)

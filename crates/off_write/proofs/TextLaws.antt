@@ -33,14 +33,14 @@ size_fixed : (x y : ℕ) → x < 2 ^ 64 → y < 2 ^ 64 → decimal (x / 1000000)
 size_fixed x y h k e =
     let less = λ (n : ℕ). Above-less 46 47 (decimal n) (omega arith) (decimal_above n) in
     let r =
-        same_piece 46 (decimal (x / 1000000)) (decimal (y / 1000000)) (last_digits 6 x) (last_digits 6 y) 46 46 (less (x / 1000000))
-            (less (y / 1000000)) (omega arith) (omega arith) e in
+    same_piece 46 (decimal (x / 1000000)) (decimal (y / 1000000)) (last_digits 6 x) (last_digits 6 y) 46 46 (less (x / 1000000))
+    (less (y / 1000000)) (omega arith) (omega arith) e in
     six_digits x y r.2 (decimal_injective (x / 1000000) (y / 1000000) (omega arith) (omega arith) r.0)
 
 size_above : (n k : ℕ) → Above 45 (decimal n ++ 46 ∷ last_digits 6 k)
 size_above n k =
     Above-append 45 (decimal n) (46 ∷ last_digits 6 k) (Above-less 45 47 (decimal n) (omega arith) (decimal_above n))
-        (omega arith, Above-less 45 47 (last_digits 6 k) (omega arith) (last_above 6 k))
+    (omega arith, Above-less 45 47 (last_digits 6 k) (omega arith) (last_above 6 k))
 
 no_minus : (xs ys : List ℕ) → Above 45 xs → xs ≡ 45 ∷ ys → ⊥
 no_minus [] ys p e = cc
@@ -50,12 +50,12 @@ millionths_fixed : (y z : ℤ) → nat_abs y ≤ 2 ^ 63 → nat_abs z ≤ 2 ^ 63
 millionths_fixed (pos x) (pos y) h k e = ap pos (size_fixed x y (omega arith) (omega arith) e)
 millionths_fixed (pos x) (negsuc y) h k e =
     absurd
-        (no_minus (decimal (x / 1000000) ++ 46 ∷ last_digits 6 x) (decimal ((y + 1) / 1000000) ++ 46 ∷ last_digits 6 (y + 1))
-             (size_above (x / 1000000) x) e)
+    (no_minus (decimal (x / 1000000) ++ 46 ∷ last_digits 6 x) (decimal ((y + 1) / 1000000) ++ 46 ∷ last_digits 6 (y + 1))
+    (size_above (x / 1000000) x) e)
 millionths_fixed (negsuc x) (pos y) h k e =
     absurd
-        (no_minus (decimal (y / 1000000) ++ 46 ∷ last_digits 6 y) (decimal ((x + 1) / 1000000) ++ 46 ∷ last_digits 6 (x + 1))
-             (size_above (y / 1000000) y) (sym e))
+    (no_minus (decimal (y / 1000000) ++ 46 ∷ last_digits 6 y) (decimal ((x + 1) / 1000000) ++ 46 ∷ last_digits 6 (x + 1))
+    (size_above (y / 1000000) y) (sym e))
 millionths_fixed (negsuc x) (negsuc y) h k e =
     let f : decimal ((x + 1) / 1000000) ++ 46 ∷ last_digits 6 (x + 1) ≡ decimal ((y + 1) / 1000000) ++ 46 ∷ last_digits 6 (y + 1) = cc in
     let s = size_fixed (x + 1) (y + 1) (omega arith) (omega arith) f in
@@ -170,11 +170,11 @@ vertices_fixed d (v ∷ V) [] S T h p q i j e =
     absurd (no_vertex d T v (vertex_lines V ++ simplex_lines d S) h (All-head (HasLength d) v V p) f)
 vertices_fixed d (v ∷ V) (w ∷ W) S T h p q i j e =
     let f =
-        sym (append_assoc (line (map millionths v)) (vertex_lines V) (simplex_lines d S)) ∙ e
-            ∙ append_assoc (line (map millionths w)) (vertex_lines W) (simplex_lines d T) in
+    sym (append_assoc (line (map millionths v)) (vertex_lines V) (simplex_lines d S)) ∙ e
+    ∙ append_assoc (line (map millionths w)) (vertex_lines W) (simplex_lines d T) in
     let r =
-        vertex_line_fixed d v w (vertex_lines V ++ simplex_lines d S) (vertex_lines W ++ simplex_lines d T) h (All-head (HasLength d) v V p)
-            (All-head (HasLength d) w W q) f in
+    vertex_line_fixed d v w (vertex_lines V ++ simplex_lines d S) (vertex_lines W ++ simplex_lines d T) h (All-head (HasLength d) v V p)
+    (All-head (HasLength d) w W q) f in
     let a = coordinates_fixed v w (All-head IsShort v V i) (All-head IsShort w W j) r.0 in
     let b = vertices_fixed d V W S T h (All-tail (HasLength d) v V p) (All-tail (HasLength d) w W q) (All-tail IsShort v V i) (All-tail IsShort w W j) r.1 in
     (cc (a, b.0), b.1)
@@ -213,7 +213,7 @@ lines_same d m n e =
     let f = append_cancel_left (format_lines d) _ _ (sym (text_split d m) ∙ e ∙ text_split d n) in
     let a = decimal (length m.vertices) in
     let r = same_line (decimal (length m.vertices)) (decimal (length n.vertices)) (decimal (length m.simplices) ∷ (48 ∷ []) ∷ [])
-        (decimal (length n.simplices) ∷ (48 ∷ []) ∷ [])
+    (decimal (length n.simplices) ∷ (48 ∷ []) ∷ [])
     (vertex_lines m.vertices ++ simplex_lines d m.simplices) (vertex_lines n.vertices ++ simplex_lines d n.simplices)
     (counts_plain (length m.vertices) (length m.simplices)) (counts_plain (length n.vertices) (length n.simplices)) f in
     r.2

@@ -41,7 +41,7 @@ pub after_digits : (old new digits rest : List ℕ) (at : ℕ) → drop at new �
     → take (at + length digits) new ≡ take at old ++ digits
 after_digits old new digits rest at d t =
     let whole : take (length digits) (digits ++ rest) ≡ digits =
-        take-append-le (length digits) digits rest (omega arith) ∙ take_all (length digits) digits (omega arith) in
+    take-append-le (length digits) digits rest (omega arith) ∙ take_all (length digits) digits (omega arith) in
     rw (take-add at (length digits) new, d, whole, t)
 
 -- ---- lines

@@ -56,7 +56,7 @@ front_more a c text more p = (p.0, omega (arith, p.1, length-append text more), 
 front_after : (a b c : Option (List ℕ)) (put page : List ℕ) → Appends a b put → AppendsFront b c page → AppendsFront a c (put ++ page)
 front_after a b c put page p q =
     let e : take (length put + q.0) (put ++ page) ≡ put ++ take q.0 page =
-        rw (take-add (length put) q.0 (put ++ page), take_at put page (length put) refl, drop_length put page) in
+    rw (take-add (length put) q.0 (put ++ page), take_at put page (length put) refl, drop_length put page) in
     (length put + q.0, omega (arith, q.1, length-append put page), rw e (appends_more a b c put (take q.0 page) p q.2))
 
 -- a front of the page was put
@@ -76,7 +76,7 @@ pub lines_front : {X : Type 0} (f : X → List ℕ) (a b c : Option (List ℕ)) 
     → AllButPage a b (head ++ flat_map f (take i xs)) page → AppendsFront b c page → AppendsFront a c (head ++ flat_map f xs)
 lines_front f a b c head page i xs p q =
     rw (lines_split f head i xs) at
-        (front_more a c (head ++ flat_map f (take i xs)) (flat_map f (drop i xs)) (waits_front a b c (head ++ flat_map f (take i xs)) page p q))
+    (front_more a c (head ++ flat_map f (take i xs)) (flat_map f (drop i xs)) (waits_front a b c (head ++ flat_map f (take i xs)) page p q))
 
 -- one line more
 pub lines_more : {X : Type 0} (f : X → List ℕ) (a b c : Option (List ℕ)) (head page next : List ℕ) (i : ℕ) (xs : List X) (x : X) → i < length xs
@@ -85,7 +85,7 @@ pub lines_more : {X : Type 0} (f : X → List ℕ) (a b c : Option (List ℕ)) (
 lines_more f a b c head page next i xs x h e p q =
     let all : take (i + 1) xs ≡ take i xs ++ x ∷ [] = take_more xs i x h ∙ ap (λ y. take i xs ++ y ∷ []) (sym e) in
     rw (all, ← flat_map_more f head (take i xs) x)
-        (waits_more a c (head ++ flat_map f (take i xs)) next (f x) (waits_on a b c (head ++ flat_map f (take i xs)) page next p q))
+    (waits_more a c (head ++ flat_map f (take i xs)) next (f x) (waits_on a b c (head ++ flat_map f (take i xs)) page next p q))
 
 -- what holds whatever the outcome
 pub on_err : {T E Q : Type 0} (r : Result T E) → Q → OnErr r Q

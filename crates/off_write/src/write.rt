@@ -1,11 +1,11 @@
 //! Putting a mesh's text to a sink.
 
-ghost use Rattle.std.specs.Prelude.{◌≡◌, ◌+◌, ◌≤◌, [], ◌++◌, length, OnOk, OnErr, IfErr};
+ghost use Rattle.std.specs.Prelude.{◌≡◌, ◌+◌, ◌≤◌, [], length, OnOk, OnErr, IfErr};
 ghost use Rattle.std.specs.Io.KnownBytes.{Appends};
 ghost use Rattle.iso_base.specs.Faults.{Rose, CountsFaults};
 ghost use Rattle.iso_base.specs.Fronts.{AppendsFront};
 ghost use Rattle.iso_formats.specs.MeshText.{mesh_text};
-ghost use Rattle.off_write.specs.Pages.{page_size, vertex_lines, simplex_lines, AllButPage};
+ghost use Rattle.off_write.specs.Pages.{page_size, AllButPage, PutsVertices, PutsSomeVertices, PutsSimplices, PutsSomeSimplices};
 ghost use Rattle.iso_model.specs.Dimensions.{IsDimension};
 
 use crate::lines::{push_head, push_simplex, push_vertex};
@@ -54,8 +54,8 @@ fn put_vertices<const D: usize, O: Sink>(
 ) -> Result<(), Failed>
     requires dimension { IsDimension D }
     ensures faults { CountsFaults (O.faults out.old) (O.faults out.new) result }
-    ensures waits { OnOk result (AllButPage (O.bytes out.old) (O.bytes out.new) (page.old ++ vertex_lines vertices.now) page.new) }
-    ensures front { OnErr result (AppendsFront (O.bytes out.old) (O.bytes out.new) (page.old ++ vertex_lines vertices.now)) }
+    ensures waits { OnOk result (PutsVertices (O.bytes out.old) (O.bytes out.new) page.old vertices.now page.new) }
+    ensures front { OnErr result (PutsSomeVertices (O.bytes out.old) (O.bytes out.new) page.old vertices.now) }
 {
     for vertex in vertices {
         make_room(page, out)?;
@@ -71,8 +71,8 @@ fn put_simplices<const D: usize, O: Sink>(
 ) -> Result<(), Failed>
     requires dimension { IsDimension D }
     ensures faults { CountsFaults (O.faults out.old) (O.faults out.new) result }
-    ensures waits { OnOk result (AllButPage (O.bytes out.old) (O.bytes out.new) (page.old ++ simplex_lines D simplices.now) page.new) }
-    ensures front { OnErr result (AppendsFront (O.bytes out.old) (O.bytes out.new) (page.old ++ simplex_lines D simplices.now)) }
+    ensures waits { OnOk result (PutsSimplices D (O.bytes out.old) (O.bytes out.new) page.old simplices.now page.new) }
+    ensures front { OnErr result (PutsSomeSimplices D (O.bytes out.old) (O.bytes out.new) page.old simplices.now) }
 {
     for simplex in simplices {
         make_room(page, out)?;

@@ -10,4 +10,4 @@ returns-then-dimension-eq3-clause-text c = rw c.if-dimension-eq3.true c.push_all
 pub returns-else-dimension-eq3-clause-text : goal.returns-else-dimension-eq3-clause-text
 returns-else-dimension-eq3-clause-text c =
     rw (format_not_three c.args.dimension c.if-dimension-eq3.false, c.push.ensures, c.push_number.ensures.text, c.push_all-else-dimension-eq3.ensures)
-        (simp append_assoc)
+    (simp append_assoc)

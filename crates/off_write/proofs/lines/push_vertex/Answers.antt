@@ -11,16 +11,14 @@ returns g c =
     let fits : FitsSigned w64 (get_or c.args.vertex.now 0 (pos 0)) = search rules in
     let some : 0 < length c.args.vertex.now = search rules in
     let all : map millionths c.args.vertex.now ≡ millionths first ∷ map millionths rest = ap (map millionths) (first_and_rest v (pos 0) some) in
-    record
-        {
-          text = rw
-              (
-                all,
-                line_of_map millionths (millionths first) rest,
-                c.push.ensures,
-                c.push_rest.ensures.text,
-                c.push_coordinate.ensures.text,
-                to_z-of_z fits
-              )
-              (simp append_assoc)
-        }
+    record {
+      text = rw (
+        all,
+        line_of_map millionths (millionths first) rest,
+        c.push.ensures,
+        c.push_rest.ensures.text,
+        c.push_coordinate.ensures.text,
+        to_z-of_z fits,
+      )
+          (simp append_assoc);
+    }

@@ -14,7 +14,7 @@ unfolding simplex_lines
 returns-in_err-make_room-clause-front g c =
     on_err c.from_residual.result
     (lines_front (λ w. line (decimal g.row.D ∷ map decimal w)) _ _ _ c.args.page.now _ c.loop-simplex.simplex-index c.args.simplices.now
-         c.loop-simplex.invariant.1 c.in_err-make_room.ensures.front)
+    c.loop-simplex.invariant.1 c.in_err-make_room.ensures.front)
 
 pub loop-simplex-preserved : goal.loop-simplex-preserved
 unfolding simplex_lines
@@ -22,5 +22,5 @@ loop-simplex-preserved g c = (
   omega (arith, c.in_ok-make_room.ensures.faults.later, c.loop-simplex.invariant.0),
   rw c.push_simplex.ensures.text
       (lines_more (λ w. line (decimal g.row.D ∷ map decimal w)) _ _ _ c.args.page.now _ _ c.loop-simplex.simplex-index c.args.simplices.now _
-           c.loop-simplex-test.true c.simplex-item.is c.loop-simplex.invariant.1 c.in_ok-make_room.ensures.waits),
+      c.loop-simplex-test.true c.simplex-item.is c.loop-simplex.invariant.1 c.in_ok-make_room.ensures.waits),
 )

@@ -13,7 +13,7 @@ unfolding vertex_lines
 returns-in_err-make_room-clause-front g c =
     on_err c.from_residual.result
     (lines_front (λ v. line (map millionths v)) _ _ _ c.args.page.now _ c.loop-vertex.vertex-index c.args.vertices.now c.loop-vertex.invariant.1
-         c.in_err-make_room.ensures.front)
+    c.in_err-make_room.ensures.front)
 
 pub loop-vertex-preserved : goal.loop-vertex-preserved
 unfolding vertex_lines
@@ -21,5 +21,5 @@ loop-vertex-preserved g c = (
   omega (arith, c.in_ok-make_room.ensures.faults.later, c.loop-vertex.invariant.0),
   rw c.push_vertex.ensures.text
       (lines_more (λ v. line (map millionths v)) _ _ _ c.args.page.now _ _ c.loop-vertex.vertex-index c.args.vertices.now _ c.loop-vertex-test.true
-           c.vertex-item.is c.loop-vertex.invariant.1 c.in_ok-make_room.ensures.waits),
+      c.vertex-item.is c.loop-vertex.invariant.1 c.in_ok-make_room.ensures.waits),
 )

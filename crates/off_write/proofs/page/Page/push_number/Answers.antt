@@ -13,7 +13,7 @@ pub write_digits-requires : goal.write_digits-requires
 write_digits-requires c =
     let short = length-decimal-le 20 c.args.number (omega arith) (omega arith) (omega arith) in
     let filled : length c.args.self.now ≡ c.self.inside.filled =
-        rw (← c.self.view_is) (length-take-le c.self.inside.filled c.self.inside.bytes (omega arith)) in
+    rw (← c.self.view_is) (length-take-le c.self.inside.filled c.self.inside.bytes (omega arith)) in
     (omega arith, omega arith)
 
 pub returns-clause-text : goal.returns-clause-text
