@@ -1,8 +1,8 @@
 //! Reading the bytes of a table.
 
-ghost use Rattle.std.specs.Prelude.{◌≡◌, ◌≤◌, length, IfOk, IfErr, IsOkUnless};
+ghost use Rattle.std.specs.Prelude.{◌≡◌, IfOk, IfErr, IsOkUnless};
 ghost use Rattle.iso_model.specs.Tables.{Table as TableValue};
-ghost use Rattle.iso_formats.specs.TableFile.{SpellsTable, IsWholeTable, table_limit};
+ghost use Rattle.iso_formats.specs.TableFile.{SpellsTable, IsTooLong, IsWholeTable};
 ghost use Rattle.table_file.specs.Heads.{HasHead, StopsInHead};
 ghost use Rattle.table_file.specs.Reading.{table_in, HasOwnDimension, HasCause};
 
@@ -19,7 +19,7 @@ const HEAD: usize = 16;
 /// The table of which these are the bytes: a head of sixteen bytes, and for each label the number of its tuples, in
 /// four bytes with the high one first and at most 2^28, and then the tuples. Numbers of edges have one byte.
 pub fn decode(alloc: Global, bytes: &[u8]) -> Result<AnyTable, TableFault>
-    requires { length bytes.now ≤ table_limit }
+    requires { ¬ IsTooLong bytes.now }
     ensures table { IfOk result (λ table. SpellsTable bytes.now (table_in table)) }
     ensures same { (t : TableValue) → SpellsTable bytes.now t → IfOk result (λ table. table_in table ≡ t) }
     ensures dimension { IfOk result HasOwnDimension }
@@ -57,7 +57,7 @@ fn read_table<const D: usize>(
     kind: Kind,
     bytes: &[u8],
 ) -> Result<Table<D>, TableFault>
-    requires few { length bytes.now ≤ table_limit }
+    requires few { ¬ IsTooLong bytes.now }
     requires head { HasHead bytes.now kind D }
     ensures table { IfOk result (SpellsTable bytes.now) }
     ensures dimension { IfOk result (λ table. table.dimension ≡ D) }
