@@ -17,7 +17,7 @@ use Rattle.cube_moves.proofs.OrderChecks.{few_axes}
 use Rattle.cube_moves.proofs.InverseMoves.{AreInverse, inverse_too, carries_back}
 use Rattle.case_patch.specs.FacetLists.{AreAllFacets}
 use Rattle.case_patch.specs.MovedPoints.{carried_point}
-use Rattle.case_patch.proofs.FacetSets.{listed_facets, facet_number}
+use Rattle.case_patch.proofs.FacetSets.{listed_facets, facet_number, digit_test}
 use Rattle.case_patch.proofs.LabelPoints.{edges_below, corners_below}
 use Rattle.case_patch.proofs.MovedFacets.{PointsMatch, moved_set, facet_moved}
 use Rattle.case_patch.proofs.MovedPoints.{points_match}
@@ -44,11 +44,6 @@ points_wide d label is = All-append (λ p. length p ≡ d)
   where
     has_d : HasDimension Cube d
     has_d = few_axes d is
-
--- the number of a facet's set has the bits of its members
-digit_test : (b : Bool) → (digit b == 1) ≡ b
-digit_test true = refl
-digit_test false = refl
 
 facet_bit : (d : ℕ) (points : List (List ℤ)) (set : List ℕ) (j : ℕ) → IsFacet d points set → j < length points → is_set (set_number set) j ≡ has set j
 facet_bit d points set j f h =

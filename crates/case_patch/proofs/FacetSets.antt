@@ -15,7 +15,7 @@ use Rattle.lists.specs.Bits.{set_number}
 use Rattle.lists.proofs.Contained.{from_Contains-map, Contains-mapped}
 use Rattle.halfspace.proofs.TightNumbers.{set_number-below}
 
-digit_test : (b : Bool) → (digit b == 1) ≡ b
+pub digit_test : (b : Bool) → (digit b == 1) ≡ b
 digit_test true = refl
 digit_test false = refl
 

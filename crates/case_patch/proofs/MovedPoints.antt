@@ -28,6 +28,7 @@ use Rattle.lists.specs.Bits.{is_set}
 use Rattle.lists.proofs.Contained.{below_contained, contained_below, Contains-at, Contains-filter, Contains-split, Contains-passes}
 use Rattle.lists.proofs.MemberLaws.{map-map}
 use Rattle.iso_model.specs.Dimensions.{IsDimension}
+use Rattle.iso_model.proofs.PointLaws.{plus_comm}
 
 -- ---- places in lists
 
@@ -122,18 +123,12 @@ middle_placed d is by o j k =
     middle_at : (a : ℕ) → a < d → slice_index_or (map pos (midpoint_between Cube d (j, k))) a (pos 0) ≡ pos (2 * bit_at j a + 2 * bit_at k a)
     middle_at a h = ap (λ (xs : List ℤ). slice_index_or xs a (pos 0)) (middle j k) ∙ at_place (λ i. pos (2 * bit_at j i + 2 * bit_at k i)) d a (pos 0) h
 
-plus-turned : (xs ys : List ℕ) → plus xs ys ≡ plus ys xs
-plus-turned [] [] = refl
-plus-turned [] (y ∷ ys) = refl
-plus-turned (x ∷ xs) [] = refl
-plus-turned (x ∷ xs) (y ∷ ys) = let s : x + y ≡ y + x = omega arith in ap (λ (n : ℕ). n ∷ plus xs ys) s ∙ ap (λ (zs : List ℕ). (y + x) ∷ zs) (plus-turned xs ys)
-
 -- the midpoint of a moved edge
 pub edge_placed : (d : ℕ) → IsDimension d → (by : Move) → IsMove d by → (e : ℕ) → e < edge_count Cube d
     → placed d by (map pos (edge_midpoint Cube d e)) ≡ map pos (edge_midpoint Cube d (move_edge d by e))
 edge_placed d is by move e h =
     edge_moved_ends d is by move e h (λ x y. placed d by (map pos (edge_midpoint Cube d e)) ≡ map pos (plus (corner_point Cube d x) (corner_point Cube d y)))
-    (λ x y p. p ∙ ap (map pos) (plus-turned (corner_point Cube d x) (corner_point Cube d y)))
+    (λ x y p. p ∙ ap (map pos) (plus_comm (corner_point Cube d x) (corner_point Cube d y)))
     (middle_placed d is by move.0 (edge_ends Cube d e).0 (edge_ends Cube d e).1)
 
 -- ---- the points of a labelling, one by one

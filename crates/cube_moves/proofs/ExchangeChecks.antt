@@ -16,9 +16,6 @@ use Rattle.iso_model.specs.Dimensions.{IsDimension, in_each_dimension}
 
 -- ---- exchanges
 
-no_exchange : Exchange
-no_exchange = record { kept = 0; lower = 0; shift = 0 }
-
 abbrev pub all_fit : ℕ → Exchange → Bool
 all_fit d x = list_all (fits_at d x) (numbers (2 ^ d)) && nat_le x.shift 16
 

@@ -20,16 +20,6 @@ pub record IsMovedBelow (d : ℕ) (by : Move) (label n moved : ℕ) : Type 0 whe
   pub done : (k : ℕ) → k < 2 ^ d → k < n → is_set moved (move_corner d by k) ≡ is_set label k
   pub left : (k : ℕ) → k < 2 ^ d → n ≤ k → is_set moved (move_corner d by k) ≡ false
 
-pub none_moved : (d : ℕ) (by : Move) (label : ℕ) → IsMovedBelow d by label 0 0
-none_moved d by label = record {
-  below = zero_small;
-  done = λ k h l. absurd (omega arith);
-  left = λ k h l. ap (λ (b : ℕ). b == 1) (bit_at-zero (move_corner d by k));
-}
-  where
-    zero_small : 0 < 2 ^ (2 ^ d)
-    zero_small = pow_pos (2 ^ d)
-
 -- different corners go to different ones
 apart : (d : ℕ) (by un : Move) → AreInverse d by un → (j k : ℕ) → j < 2 ^ d → k < 2 ^ d → j ≢ k → move_corner d by j ≢ move_corner d by k
 apart d by un i j k in_j in_k ne e = ne (sym (i.there j in_j) ∙ ap (move_corner d un) e ∙ i.there k in_k)
@@ -75,7 +65,3 @@ one_more_moved d is by move label n moved c in_n at some so_far = record {
             ∙ ap (λ (b : ℕ). b == 1) (bit_at_set_same w32 moved c small) ∙ sym some ∙ ap (is_set label) (sym e)
     by_place k h (inr (inl m)) l = ap (λ (b : ℕ). b == 1) (bit_at_set_other w32 moved c small (move_corner d by k) (other k h (inr m))) ∙ so_far.done k h m
     by_place k h (inr (inr m)) l = absurd (omega arith)
-
--- where all corners are moved the label is carried
-pub all_moved : (d : ℕ) (by : Move) (label n moved : ℕ) → 2 ^ d ≤ n → IsMovedBelow d by label n moved → Carries d by label moved
-all_moved d by label n moved all so_far = (so_far.below, λ k h. so_far.done k h (omega arith))

@@ -9,17 +9,12 @@ use Rattle.std.proofs.lemmas.List.Sums.{sum_by_push}
 use Rattle.std.proofs.lemmas.Nat.Bits.{bit_at_cat_low, bit_at_cat_high, bit_at-lt, bit_at-zero, same_from_bits_below}
 use Rattle.iso_model.specs.Moves.{Move, move_corner}
 use Rattle.lists.specs.Orders.{numbers}
+use Rattle.lists.proofs.Powers.{range_push}
 
 -- ---- a number by its digits
 
-range_more : (a n : ℕ) → range_with_len a (suc n) ≡ range_with_len a n ++ ((a + n) ∷ [])
-range_more a zero = let e : a ≡ a + 0 = omega arith in ap (λ (k : ℕ). k ∷ []) e
-range_more a (suc n) =
-    let e : a + 1 + n ≡ a + suc n = omega arith in
-    ap (λ (xs : List ℕ). a ∷ xs) (range_more (a + 1) n ∙ ap (λ (k : ℕ). range_with_len (a + 1) n ++ (k ∷ [])) e)
-
 pub numbers_more : (n : ℕ) → numbers (suc n) ≡ numbers n ++ (n ∷ [])
-numbers_more n = let z : 0 + n ≡ n = omega arith in range_more 0 n ∙ ap (λ (k : ℕ). numbers n ++ (k ∷ [])) z
+numbers_more n = let z : 0 + n ≡ n = omega arith in range_push 0 n ∙ ap (λ (k : ℕ). numbers n ++ (k ∷ [])) z
 
 -- the number with these digits
 abbrev pub digits : (ℕ → ℕ) → ℕ → ℕ

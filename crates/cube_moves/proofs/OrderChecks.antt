@@ -47,10 +47,6 @@ is_order d axes = (length axes == d) && list_all (λ i. nat_lt (slice_index axes
 all_are_orders : (d : ℕ) → IsDimension d → (axes : List ℕ) → Contains (orders d) axes → is_order d axes ≡ true
 all_are_orders = each_order is_order refl refl refl
 
-pub order-length : (d : ℕ) → IsDimension d → (axes : List ℕ) → Contains (orders d) axes → length axes ≡ d
-order-length d is axes o =
-    eqb-true (length axes) d (and_parts (length axes == d) (list_all (λ i. nat_lt (slice_index axes i) d) (numbers d)) (all_are_orders d is axes o)).0
-
 pub axis-below : (d : ℕ) → IsDimension d → (axes : List ℕ) → Contains (orders d) axes → (i : ℕ) → i < d → slice_index axes i < d
 axis-below d is axes o i h =
     ltb-true (slice_index axes i) d

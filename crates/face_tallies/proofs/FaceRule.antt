@@ -30,22 +30,11 @@ use Rattle.lists.proofs.MemberLaws.{In_from_place, Contains_from, In_of_has, has
 use Rattle.lists.proofs.Sorting.{bit, count_by-cons}
 use Rattle.lists.proofs.Counts.{count_some, from_count}
 use Rattle.lists.proofs.Ascending.{ascends_of}
-use Rattle.lists.proofs.Bits.{same_from_number}
+use Rattle.lists.proofs.Bits.{same_from_number, bit-set, bit-unset}
 
 -- ---- tests of all members
 
 -- ---- the facets in which a face lies
-
-set_bit : (n e : ℕ) → is_set n e ≡ true → bit_at n e ≡ 1
-set_bit n e h = eqb-true (bit_at n e) 1 h
-
-no_bit : (n e : ℕ) → is_set n e ≡ false → bit_at n e ≡ 0
-no_bit n e h = by_value (bit_at n e) (bit_at-lt n e) h
-  where
-    by_value : (b : ℕ) → b < 2 → (b == 1) ≡ false → b ≡ 0
-    by_value zero l h = refl
-    by_value (suc zero) l h = absurd (cc)
-    by_value (suc (suc b)) l h = absurd (omega arith)
 
 -- a set that lies within another is what both have
 lies_within : (face : List ℕ) (facet : ℕ) → Ascends face → list_all (is_set facet) face ≡ (bit_and (set_number face) facet == set_number face)
@@ -59,16 +48,16 @@ lies_within face facet a = same_tests (list_all (is_set facet) face) (bit_and (s
     by_member : list_all (is_set facet) face ≡ true → (i : ℕ) (b : Bool) → has face i ≡ b
         → min (bit_at (set_number face) i) (bit_at facet i) ≡ bit_at (set_number face) i
     by_member h i true t =
-        let first : bit_at (set_number face) i ≡ 1 = set_bit (set_number face) i (face_bits face a i ∙ t) in
-        let other : bit_at facet i ≡ 1 = set_bit facet i (all_In (is_set facet) face h i (In_of_has face i t)) in
+        let first : bit_at (set_number face) i ≡ 1 = bit-set (set_number face) i (face_bits face a i ∙ t) in
+        let other : bit_at facet i ≡ 1 = bit-set facet i (all_In (is_set facet) face h i (In_of_has face i t)) in
         omega (arith, first, other)
     by_member h i false t =
-        let first : bit_at (set_number face) i ≡ 0 = no_bit (set_number face) i (face_bits face a i ∙ t) in
+        let first : bit_at (set_number face) i ≡ 0 = bit-unset (set_number face) i (face_bits face a i ∙ t) in
         omega (arith, first)
 
     member : bit_and (set_number face) facet ≡ set_number face → (e : ℕ) → has face e ≡ true → is_set facet e ≡ true
     member s e t =
-        let first : bit_at (set_number face) e ≡ 1 = set_bit (set_number face) e (face_bits face a e ∙ t) in
+        let first : bit_at (set_number face) e ≡ 1 = bit-set (set_number face) e (face_bits face a e ∙ t) in
         let both : min (bit_at (set_number face) e) (bit_at facet e) ≡ bit_at (set_number face) e =
         sym (bit_at_and (set_number face) facet e) ∙ ap (λ n. bit_at n e) s in
         let small = bit_at-lt facet e in

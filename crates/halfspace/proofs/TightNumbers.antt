@@ -16,6 +16,7 @@ use Rattle.iso_model.specs.Turns.{same_int}
 use Rattle.lists.specs.Bits.{set_number}
 use Rattle.lists.proofs.Bits.{shifted_one}
 use Rattle.iso_model.proofs.PointLaws.{same_int-is}
+use Rattle.lists.proofs.Powers.{range_push}
 
 -- ---- the test of equality
 
@@ -28,17 +29,11 @@ same_int-false a b n = by_test (same_int a b) refl
 
 -- ---- the numbers below n, one more
 
-range_more : (a n : ℕ) → range_with_len a (suc n) ≡ range_with_len a n ++ ((a + n) ∷ [])
-range_more a zero = let e : a ≡ a + 0 = omega arith in ap (λ (k : ℕ). k ∷ []) e
-range_more a (suc n) =
-    let e : a + 1 + n ≡ a + suc n = omega arith in
-    ap (λ (xs : List ℕ). a ∷ xs) (range_more (a + 1) n ∙ ap (λ (k : ℕ). range_with_len (a + 1) n ++ (k ∷ [])) e)
-
 pub numbers_more : (n : ℕ) → numbers (n + 1) ≡ numbers n ++ (n ∷ [])
 numbers_more n =
     let e : n + 1 ≡ suc n = omega arith in
     let z : 0 + n ≡ n = omega arith in
-    ap numbers e ∙ range_more 0 n ∙ ap (λ (k : ℕ). numbers n ++ (k ∷ [])) z
+    ap numbers e ∙ range_push 0 n ∙ ap (λ (k : ℕ). numbers n ++ (k ∷ [])) z
 
 pub filter_numbers_more : (p : ℕ → Bool) (n : ℕ) → filter p (numbers (n + 1)) ≡ filter p (numbers n) ++ cond (p n) (n ∷ []) []
 filter_numbers_more p n = ap (filter p) (numbers_more n) ∙ filter-append p (numbers n) (n ∷ [])

@@ -21,12 +21,6 @@ of_refusal P t (Err Statuses.Memory) memory refused is = memory
 of_refusal P t (Err (Statuses.TableRefused label r)) memory refused is = refused label r is
 of_refusal P t (Err _) memory refused is = absurd is
 
--- a file that is refused by its form is refused where its table is to be accepted
-pub form_refused : (files : Option Files) (name : List ℕ) (status : Status) → IsRefusedFile files name IsRefusedForm status
-    → IsRefusedFile files name IsRefusedTable status
-form_refused files name status refused =
-    file_map files name (λ bytes. IsRefusedForm bytes status) (λ bytes. IsRefusedTable bytes status) (λ bytes form. by_form form) refused
-
 -- a table that is not accepted is refused where the file holds it
 pub table_refused : {T : Type 0} (files : Option Files) (name : List ℕ) (t : Table) (result : Result T Status)
     → FileHas files name (λ bytes. IsFileOf bytes t) → IfErr result (IsRefusalOf t)

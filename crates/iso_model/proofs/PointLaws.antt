@@ -1,5 +1,5 @@
 -- Points and sums by their coordinates.
-use Rattle.std.proofs.Common.{◌≡◌, List, [], ◌∷◌, ◌++◌, ℤ, ◌+ℤ◌, arith, true, ap, pos, negsuc, refl, subst, suc}
+use Rattle.std.proofs.Common.{◌≡◌, List, [], ◌∷◌, ◌++◌, ℤ, ◌+ℤ◌, arith, true, ap, pos, negsuc, refl, subst, suc, ◌+◌}
 use Rattle.std.proofs.lemmas.Int.{ints}
 use Rattle.iso_model.specs.Turns.{total, same_int, difference}
 use Rattle.std.proofs.lemmas.Bool.{false≢true, eq-eqb}
@@ -39,3 +39,9 @@ pub length-difference : (p q : List ℕ) → length q ≡ length p → length (d
 length-difference [] q e = refl
 length-difference (x ∷ p) [] e = absurd (omega (arith, e))
 length-difference (x ∷ p) (y ∷ q) e = ap suc (length-difference p q (omega (arith, e)))
+
+pub plus_comm : (p q : List ℕ) → plus p q ≡ plus q p
+plus_comm [] [] = refl
+plus_comm [] (y ∷ q) = refl
+plus_comm (x ∷ p) [] = refl
+plus_comm (x ∷ p) (y ∷ q) = let first : x + y ≡ y + x = omega arith in rw (first, plus_comm p q) refl

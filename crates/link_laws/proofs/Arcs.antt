@@ -301,21 +301,6 @@ module _ (p : Pieces) (laws : Laws p) (links : LinkLaws p) where
   both_clash true false c e f g = cc
   both_clash false b c e f g = cc
 
-  -- a triangle with the leaving sign at q leaves by q
-  pub leaving_reads : (k q : ℕ) (v : List ℕ) → In v (placed_simplices p) → has_signed (leaving k q) (pair k q) v ≡ true → k ≢ q → (r : ℕ) × Reading k q r v
-  leaving_reads k q v i h differ =
-      let s = from_any (is_signed_face (leaving k q) (pair k q)) (left_out v) (and_right (is_distinct v) _ h) in
-      let same_face : sorted s.0.1 ≡ pair k q = (bytes_eq-Decides (sorted s.0.1) (pair k q)).0 (and_left (is_face (pair k q) s.0) _ s.2) in
-      let in_v : (y : ℕ) → In y (k ∷ q ∷ []) → In y v =
-      λ y j. Part-In (left_out-Part v s.0 s.1) y (from_In-sorted y s.0.1 (subst (In y) (sym same_face) (In-sorted y (k ∷ q ∷ []) j))) in
-      let a = has_reading k v (are_linked.three v i) (in_v k (inl refl)) in
-      elim (other_is k a.0 a.1 q a.2 (in_v q (inr (inl refl))) (λ e. differ (sym e))) [
-        | inl e ↦ (a.1, subst (λ (y : ℕ). Reading k y a.1 v) (sym e) a.2)
-        | inr e ↦ absurd (both_clash (has_signed (leaving k q) (pair k q) v) (has_signed (leaving k q + 1) (pair k q) v) (has_at_a_place (pair k q) v)
-            (face_signs_at (leaving k q) (pair k q) v) h
-            (enters k a.0 q (subst (λ (y : ℕ). Reading k a.0 y v) (sym e) a.2) (are_linked.distinct v i)))
-      ]
-
   -- a triangle with the other sign at q comes in by q
   pub entering_reads : (k q : ℕ) (v : List ℕ) → In v (placed_simplices p) → has_signed (leaving k q + 1) (pair k q) v ≡ true → k ≢ q → (r : ℕ) × Reading k r q v
   entering_reads k q v i h differ =

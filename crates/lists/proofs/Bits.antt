@@ -2,7 +2,7 @@
 use Rattle.std.proofs.Common.{ap, arith, inl, inr, refl, sym, ◌∙◌}
 use Rattle.std.proofs.Math.Nat.{mod-eq_of_lt}
 use Rattle.std.proofs.Math.Pow.{pow-lt}
-use Rattle.std.proofs.lemmas.Bool.{and_from, and_parts, cases_eq, cases_lt, eq-eqb, false≢true, ne_eqb}
+use Rattle.std.proofs.lemmas.Bool.{and_from, and_parts, cases_eq, cases_lt, eq-eqb, false≢true, ne_eqb, eqb-true, eqb-false}
 use Rattle.std.proofs.lemmas.List.Sums.{sum_by-cons}
 use Rattle.std.proofs.lemmas.Nat.{pow-add, pow_pos}
 use Rattle.std.proofs.lemmas.Nat.Bits.{bit_at-lt, bit_at-pow_other, bit_at-pow_same, bit_at-zero, bit_at_and, bit_at_cat_high, bit_at_cat_low, same_from_bits}
@@ -127,3 +127,14 @@ pub same_from_number : (xs ys : List ℕ) → Ascends xs → Ascends ys → set_
 same_from_number xs ys a b e =
     let has_same = λ (z : ℕ). sym (bit_of_set xs a z) ∙ ap (λ n. is_set n z) e ∙ bit_of_set ys b z in
     same_members xs ys a b (λ z i. In_of_has ys z (sym (has_same z) ∙ has_of_In xs z i)) (λ z i. In_of_has xs z (has_same z ∙ has_of_In ys z i))
+
+pub bit-set : (n c : ℕ) → is_set n c ≡ true → bit_at n c ≡ 1
+bit-set n c e = eqb-true (bit_at n c) 1 e
+
+pub bit-unset : (n c : ℕ) → is_set n c ≡ false → bit_at n c ≡ 0
+bit-unset n c e = let l = bit_at-lt n c in let f = eqb-false (bit_at n c) 1 e in zero_of (bit_at n c) l f
+  where
+    zero_of : (b : ℕ) → b < 2 → (b ≡ 1 → ⊥) → b ≡ 0
+    zero_of zero l f = refl
+    zero_of (suc zero) l f = absurd (f refl)
+    zero_of (suc (suc b)) l f = absurd (omega arith)

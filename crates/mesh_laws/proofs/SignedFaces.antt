@@ -234,16 +234,6 @@ sign_after m face w = go (m % 2) (omega arith) refl
         ∙ sym (ap (λ (r : ℕ). signed (r == 1) (sign_of_face face w)) e)
     go (suc (suc r)) h e = absurd (omega arith)
 
-pub has_face-exchange : (face w : List ℕ) → 2 ≤ length w → has_face face (exchange_last w) ≡ has_face face w
-has_face-exchange face w long = same_bit (has_face face (exchange_last w)) (has_face face w) (omega (
-  arith,
-  has_face_signs face (exchange_last w),
-  has_face_signs face w,
-  ap bit (has_signed-exchange 0 face w long),
-  ap bit (has_signed-exchange 1 face w long),
-  ap bit (has_signed_parity 2 0 face w refl),
-))
-
 -- the exchange turns the sign
 pub sign-exchange : (face w : List ℕ) → 2 ≤ length w → sign_of_face face (exchange_last w) ≡ neg_ℤ (sign_of_face face w)
 sign-exchange face w long =
@@ -280,20 +270,6 @@ module _ (f g : ℕ → ℕ) (D : ℕ → Type 0) (back : (x : ℕ) → D x → 
       go false d =
           ap (λ (b : Bool). b && list_any (is_signed_face m (sorted (map f face))) (left_out (map f w))) (is_distinct-map w in_w ∙ d)
           ∙ sym (ap (λ (b : Bool). b && list_any (is_signed_face (m + inversions (map f face)) face) (left_out w)) d)
-
-  pub has_face-map : (face w : List ℕ) → sorted face ≡ face → Each D face → Each D w → has_face (sorted (map f face)) (map f w) ≡ has_face face w
-  has_face-map face w ascends in_face in_w =
-      let n = inversions (map f face) in
-      same_bit (has_face (sorted (map f face)) (map f w)) (has_face face w) (omega (
-        arith,
-        has_face_signs (sorted (map f face)) (map f w),
-        ap bit (has_signed-map 0 face w ascends in_face in_w),
-        ap bit (has_signed-map 1 face w ascends in_face in_w),
-        ap bit (has_signed_parity (0 + n) n face w (omega arith)),
-        ap bit (has_signed_parity (1 + n) (n + 1) face w (omega arith)),
-        ap bit (has_face_is face w),
-        face_signs_at n face w,
-      ))
 
   -- the image of a face has the sign of the face, turned by the order of its numbers' images
   pub sign-map : (face w : List ℕ) → sorted face ≡ face → Each D face → Each D w

@@ -4,7 +4,7 @@ use Rattle.std.specs.Prelude.{filter, length, Contains, if◌then◌else◌, bit
 use Rattle.std.specs.Int.{bit_at, trailing_zeros, w64}
 use Rattle.std.specs.List.{range_with_len}
 use Rattle.std.proofs.Common.{refl, sym, ap, ◌∙◌, subst, arith, inl, inr}
-use Rattle.std.proofs.lemmas.Bool.{false≢true}
+use Rattle.std.proofs.lemmas.Bool.{false≢true, cases_eq}
 use Rattle.std.proofs.lemmas.Bool.Decides.{nat_tests}
 use Rattle.std.proofs.lemmas.Nat.{and_le_l}
 use Rattle.std.proofs.lemmas.Nat.Bits.{bit_at_and, bit_at-lt, bit_at-pow_same, bit_at-pow_other, bit_at-trailing_zeros, same_from_bits_below}
@@ -137,17 +137,10 @@ zero_or_one zero h = inl refl
 zero_or_one (suc zero) h = inr refl
 zero_or_one (suc (suc b)) h = absurd (omega arith)
 
-same_or_other : (i t : ℕ) → (i ≡ t) ⊎ (i ≢ t)
-same_or_other i t = by_test (nat_eq i t) refl
-  where
-    by_test : (b : Bool) → nat_eq i t ≡ b → (i ≡ t) ⊎ (i ≢ t)
-    by_test true e = inl (grind (arith, nat_tests))
-    by_test false e = inr (λ s. grind (arith, nat_tests))
-
 pub power_is_point : (n : ℕ) → 0 < n → n < 2 ^ 64 → n ≡ 2 ^ trailing_zeros w64 n → length (set_of n) ≡ 1
 power_is_point n h k e =
     alone (set_of n) (trailing_zeros w64 n) (set_ascends n) (has_lowest n h k)
-    (λ y c. by_place y (member_bit n y c) (same_or_other y (trailing_zeros w64 n)))
+    (λ y c. by_place y (member_bit n y c) (cases_eq y (trailing_zeros w64 n)))
   where
     by_place : (y : ℕ) → bit_at n y ≡ 1 → (y ≡ trailing_zeros w64 n) ⊎ (y ≢ trailing_zeros w64 n) → y ≡ trailing_zeros w64 n
     by_place y b (inl s) = s
@@ -156,7 +149,7 @@ power_is_point n h k e =
 pub point_is_power : (n : ℕ) → 0 < n → n < 2 ^ 64 → 2 ^ trailing_zeros w64 n < 2 ^ 64 → length (set_of n) ≡ 1 → n ≡ 2 ^ trailing_zeros w64 n
 point_is_power n h k p l =
     same_from_bits_below 64 n (2 ^ trailing_zeros w64 n) k p
-    (λ i b. by_place i b (same_or_other i (trailing_zeros w64 n)) (zero_or_one (bit_at n i) (bit_at-lt n i)))
+    (λ i b. by_place i b (cases_eq i (trailing_zeros w64 n)) (zero_or_one (bit_at n i) (bit_at-lt n i)))
   where
     by_place : (i : ℕ) → i < 64 → (i ≡ trailing_zeros w64 n) ⊎ (i ≢ trailing_zeros w64 n) → (bit_at n i ≡ 0) ⊎ (bit_at n i ≡ 1)
         → bit_at n i ≡ bit_at (2 ^ trailing_zeros w64 n) i

@@ -11,7 +11,7 @@ use Rattle.std.proofs.lemmas.List.FromFn.{length-range_with_len}
 
 -- ---- a product that is not 0 has a factor that is not 0
 
-is_zero : (c : ℤ) → (c ≡ pos 0) ⊎ (c ≢ pos 0)
+pub is_zero : (c : ℤ) → (c ≡ pos 0) ⊎ (c ≢ pos 0)
 is_zero (pos zero) = inl refl
 is_zero (pos (suc n)) = inr (λ e. absurd (omega (arith, ints, e)))
 is_zero (negsuc n) = inr (λ e. absurd (omega (arith, ints, e)))

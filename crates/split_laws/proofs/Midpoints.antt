@@ -15,14 +15,9 @@ use Rattle.split_laws.proofs.Offsets.{OffsetsFit, EvenEnd, equal_lists}
 use Rattle.split_laws.proofs.Placement.{below, coordinate_of}
 use Rattle.split_laws.proofs.Sharing.{EndsAreCorners}
 use Rattle.lists.proofs.MemberLaws.{lists_equal}
+use Rattle.iso_model.proofs.PointLaws.{plus_comm}
 
 -- ---- sums of points
-
-pub plus_comm : (p q : List ℕ) → plus p q ≡ plus q p
-plus_comm [] [] = refl
-plus_comm [] (y ∷ q) = refl
-plus_comm (x ∷ p) [] = refl
-plus_comm (x ∷ p) (y ∷ q) = let first : x + y ≡ y + x = omega arith in rw (first, plus_comm p q) refl
 
 pub plus_at : (p q : List ℕ) → length q ≡ length p → (i : ℕ) → i < length p → slice_index (plus p q) i ≡ slice_index p i + slice_index q i
 plus_at [] q e i h = absurd (omega (arith, h))

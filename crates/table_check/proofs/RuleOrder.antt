@@ -10,18 +10,8 @@ use Rattle.table_check.specs.Verdicts.{KeepsAll, KeepsBelow, FailsFirst}
 
 -- ---- keeping and failing
 
--- rule 0 is no rule, and nothing fails it
-pub none_asked : (t : Table) (label : ℕ) → KeepsBelow t label 1
-none_asked t label = below_more (Keeps t label) 0 (λ q h. absurd (omega (arith, h))) refl
-
-pub one_kept : (t : Table) (label n : ℕ) → KeepsBelow t label n → rule t label n ≡ true → KeepsBelow t label (n + 1)
-one_kept t label n before here = below_more (Keeps t label) n before here
-
 pub all_kept : (t : Table) (label : ℕ) → KeepsBelow t label 7 → KeepsAll t label
 all_kept t label kept = λ q h. kept q (omega (arith, h))
-
-pub one_failed : (t : Table) (label n : ℕ) → n ≤ 6 → KeepsBelow t label n → rule t label n ≡ false → FailsFirst t label n
-one_failed t label n h before here = record { fails = λ keeps. both_ways (rule t label n) here keeps; is_rule = h; rules_below = before }
 
 -- ---- the rules of a label, told of its kind, dimension and tuples
 
@@ -45,10 +35,6 @@ pub told_edges : (t : Table) (label : ℕ) (kind : Kind) (d : ℕ) (ws : List (L
     → b ≡ rule_edges kind d label ws → rule t label 1 ≡ b
 told_edges t label = told (λ k n v. rule_edges k n label v) t label
 
-pub told_inside : (t : Table) (label : ℕ) (kind : Kind) (d : ℕ) (ws : List (List ℕ)) (b : Bool) → IsLabelAt t label kind d ws
-    → b ≡ rule_inside kind d ws → rule t label 2 ≡ b
-told_inside t label = told (λ k n v. rule_inside k n v) t label
-
 pub told_faces : (t : Table) (label : ℕ) (kind : Kind) (d : ℕ) (ws : List (List ℕ)) (b : Bool) → IsLabelAt t label kind d ws
     → b ≡ rule_faces kind d ws → rule t label 3 ≡ b
 told_faces t label = told (λ k n v. rule_faces k n v) t label
@@ -60,10 +46,6 @@ told_side t label = told (λ k n v. rule_side k n label v) t label
 pub told_path : (t : Table) (label : ℕ) (kind : Kind) (d : ℕ) (ws : List (List ℕ)) (b : Bool) → IsLabelAt t label kind d ws
     → b ≡ rule_path kind d label ws → rule t label 5 ≡ b
 told_path t label = told (λ k n v. rule_path k n label v) t label
-
-pub told_seams : (t : Table) (label : ℕ) (kind : Kind) (d : ℕ) (ws : List (List ℕ)) (b : Bool) → IsLabelAt t label kind d ws
-    → b ≡ rule_seams (seams kind d) t label → rule t label 6 ≡ b
-told_seams t label = told (λ k n v. rule_seams (seams k n) t label) t label
 
 -- ---- what later rules count on
 

@@ -1,0 +1,15 @@
+pub mod GeneratorBits
+pub mod Combinations
+pub mod GeneratorCounts
+pub mod Ratios
+pub mod Towards
+pub mod DescribeSteps
+pub mod GeneratorLists
+pub mod Kept
+pub mod Products
+pub mod Joining
+pub mod Staying
+pub mod Covering
+pub mod Opposites
+pub mod Starts
+pub mod Ends
