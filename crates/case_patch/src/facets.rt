@@ -6,7 +6,7 @@ ghost use Rattle.halfspace.specs.Choices.{AreFacetNumbers};
 
 use crate::points::{bipolar_edges, points_of, positive_corners};
 use cell_lattice::Cell;
-use halfspace::plain_facets;
+use hull_dd::facets;
 use iso_base::Memory;
 use std::alloc::Global;
 
@@ -23,5 +23,5 @@ pub fn hull<C: Cell<D>, const D: usize>(alloc: Global, label: u32) -> Result<Vec
     let edges = bipolar_edges::<C, D>(alloc, label)?;
     let corners = positive_corners::<C, D>(alloc, label)?;
     let points = points_of::<C, D>(alloc, &edges, &corners)?;
-    plain_facets(alloc, &points)
+    facets(alloc, &points)
 }

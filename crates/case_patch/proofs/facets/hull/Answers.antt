@@ -20,8 +20,8 @@ points_of-requires g c =
       ),
     )
 
-pub plain_facets-requires : goal.plain_facets-requires
-plain_facets-requires g c =
+pub facets-requires : goal.facets-requires
+facets-requires g c =
     let edges : c.deref.result.now ≡ label_edges g.C.Cell.KIND g.row.D c.args.label = c.deref.ensures.value ∙ c.in_ok-edges.ensures in
     let corners : c.deref-2.result.now ≡ label_corners g.C.Cell.KIND g.row.D c.args.label = c.deref-2.ensures.value ∙ c.in_ok-corners.ensures in
     let points : c.deref-3.result.now ≡ label_points g.C.Cell.KIND g.row.D c.args.label =
@@ -69,4 +69,4 @@ returns g c =
              map (λ e. map pos (edge_midpoint g.C.Cell.KIND g.row.D e)) (label_edges g.C.Cell.KIND g.row.D c.args.label)
                  ++ map (λ k. map (λ x. pos (2 * x)) (corner_point g.C.Cell.KIND g.row.D k)) ks)
         corners in
-    subst (λ (ps : List (List ℤ)). IfOk c.plain_facets.result (λ facets. AreFacetNumbers g.row.D ps facets.items)) points c.plain_facets.ensures
+    subst (λ (ps : List (List ℤ)). IfOk c.facets.result (λ facets. AreFacetNumbers g.row.D ps facets.items)) points c.facets.ensures
