@@ -19,6 +19,10 @@ need() { # PACKAGE TOOL: ends the example where the tool is not there
     exit 0
 }
 
+picture() { # WORD..: f3d without a screen
+    timeout 60 xvfb-run -a f3d "$@"
+}
+
 same() { # WHAT WANTED FOUND
     if [ "$2" != "$3" ]; then
         echo "$example: FAILED: $1: wanted $2, found $3"
