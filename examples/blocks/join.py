@@ -3,8 +3,9 @@
 
 The blocks are cut along the last axis and given in its order, each with the number of slices below it. Vertices on the
 slice that two blocks share are the last of the lower and the first of the upper one, in the same order, so they are
-counted off and compared. No sample may equal the isovalue: the other vertices are then off the slices of their block's
-sides. The result has the same bytes as the mesh of the whole grid."""
+counted off and compared. The other vertices are to be off the slices of their block's sides, by a millionth and more:
+so no sample may equal the isovalue, and samples have at most 16 bits before they are doubled for cubes and simplices, and
+8 bits before they are taken times 16 for pyramids. The result has the same bytes as the mesh of the whole grid."""
 import sys
 
 
