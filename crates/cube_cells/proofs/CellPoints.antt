@@ -9,7 +9,7 @@ use Rattle.iso_model.specs.Points.{point}
 use Rattle.iso_model.specs.Cells.{HasDimension, corner_count, edge_ends}
 use Rattle.iso_model.specs.Splits.{cells_per_cube, cube_at, cube_of, rank_of, corner, corner_offset, edge, edge_of_ends}
 use Rattle.iso_model.specs.Values.{Grid, volume, positive_at, label_of}
-use Rattle.iso_model.specs.Dimensions.{IsDimension, of_each_cell}
+use Rattle.iso_model.specs.Dimensions.{IsDimension}
 use Rattle.split_laws.proofs.Coordinates.{points_same}
 use Rattle.split_laws.proofs.SplitTheorems.{small_offsets}
 use Rattle.grid_split.proofs.CubeNumbers.{corner_is}
@@ -41,7 +41,7 @@ rank_in_cube kind sizes d per number rank long counted below =
 pub edge_is : (kind : Kind) (sizes : List ℕ) (d per number rank e : ℕ) (ends : ℕ × ℕ) (place first second from to : List ℕ) → length sizes ≡ d
     → per ≡ cells_per_cube kind d → rank < per → place ≡ cube_at sizes number → ends ≡ edge_ends kind d e →
     first ≡ corner_offset kind d rank ends.0 → second ≡ corner_offset kind d rank ends.1
-        → from ≡ point d (λ i. 2 * slice_index place i + slice_index first i) → to ≡ point d (λ i. 2 * slice_index place i + slice_index second i) →
+    → from ≡ point d (λ i. 2 * slice_index place i + slice_index first i) → to ≡ point d (λ i. 2 * slice_index place i + slice_index second i) →
     edge_of_ends from to ≡ edge kind sizes (number * per + rank) e
 edge_is kind sizes d per number rank e ends place first second from to long counted below at ends_are first_is second_is from_is to_is =
     let cell : ℕ = number * per + rank in
@@ -74,55 +74,55 @@ module _ {D : ℕ} (kind : Kind) (g : Grid) (iso : ℤ) (per number rank : ℕ) 
     (read : IsSignedCube g iso number cube) where
   sign_at : (k : ℕ) → k < corner_count kind (length g.sizes) →
       is_set cube.signs (point_number (length g.sizes) (corner_offset kind (length g.sizes) rank k))
-          ≡ is_positive_at g iso
-                (point (length g.sizes) (λ i. 2 * slice_index cube.place i + slice_index (corner_offset kind (length g.sizes) rank k) i))
+      ≡ is_positive_at g iso
+      (point (length g.sizes) (λ i. 2 * slice_index cube.place i + slice_index (corner_offset kind (length g.sizes) rank k) i))
   sign_at k hk =
       let d : ℕ = length g.sizes in
       let o : List ℕ = corner_offset kind d rank k in
       let small : (i : ℕ) → slice_index o i ≤ 2 = λ i. small_offsets kind d is has rank k i (subst (λ (n : ℕ). rank < n) counted below) hk in
       elim (offset_case kind d rank k has) as
-          (λ _. is_set cube.signs (point_number d o) ≡ is_positive_at g iso (point d (λ i. 2 * slice_index cube.place i + slice_index o i))) [
+      (λ _. is_set cube.signs (point_number d o) ≡ is_positive_at g iso (point d (λ i. 2 * slice_index cube.place i + slice_index o i))) [
         | inl even ↦
             let m : ℕ = set_of (λ i. slice_index o i == 2) d in
             ap (is_set cube.signs) (not_centre o m (even 0 (some_axes d is))) ∙ read.corners m (powers_few (λ i. slice_index o i == 2) d)
             ∙ ap (is_positive_at g iso) (points_same d (λ i. 2 * slice_index cube.place i + 2 * bit_at m i)
-                (λ i. 2 * slice_index cube.place i + slice_index o i) (λ i h.
+            (λ i. 2 * slice_index cube.place i + slice_index o i) (λ i h.
             ap (λ (n : ℕ). 2 * slice_index cube.place i + n) (sym (offset_bits d (λ j. slice_index o j) (λ j l. (even j l, small j)) i h))))
         | inr centre ↦
             ap (is_set cube.signs) (is_centre o (set_of (λ i. slice_index o i == 2) d) (centre.1 0 (omega arith))) ∙ read.centre centre.0
             ∙ ap (is_positive_at g iso) (points_same 3 (λ i. 2 * slice_index cube.place i + 1) (λ i. 2 * slice_index cube.place i + slice_index o i)
-                (λ i h. ap (λ (n : ℕ). 2 * slice_index cube.place i + n) (sym (centre.1 i h)))
+            (λ i h. ap (λ (n : ℕ). 2 * slice_index cube.place i + n) (sym (centre.1 i h)))
             ∙ ap (λ (n : ℕ). point n (λ i. 2 * slice_index cube.place i + slice_index o i)) (sym centre.0))
       ]
 
   corner_sign : (k : ℕ) → k < corner_count kind (length g.sizes)
       → is_set cube.signs (point_number (length g.sizes) (corner_offset kind (length g.sizes) rank k))
-            ≡ positive_at (volume kind g iso None) (corner kind g.sizes (number * per + rank) k)
+      ≡ positive_at (volume kind g iso None) (corner kind g.sizes (number * per + rank) k)
   corner_sign k hk =
       let d : ℕ = length g.sizes in
       let cell : ℕ = number * per + rank in
       sign_at k hk
       ∙ ap (is_positive_at g iso)
-          (corner_is kind g.sizes d cell k rank cube.place (corner_offset kind d rank k) refl
-               (read.stands ∙ number_of_cube kind g.sizes d per number rank refl counted below)
-               (rank_in_cube kind g.sizes d per number rank refl counted below) refl)
+      (corner_is kind g.sizes d cell k rank cube.place (corner_offset kind d rank k) refl
+      (read.stands ∙ number_of_cube kind g.sizes d per number rank refl counted below)
+      (rank_in_cube kind g.sizes d per number rank refl counted below) refl)
 
   whole_label :
       set_of (λ k. is_set cube.signs (point_number (length g.sizes) (corner_offset kind (length g.sizes) rank k)))
-          (corner_count kind (length g.sizes))
-          ≡ label_of (volume kind g iso None) (number * per + rank)
+      (corner_count kind (length g.sizes))
+      ≡ label_of (volume kind g iso None) (number * per + rank)
   unfolding label_of
   whole_label =
       same_bits (λ k. is_set cube.signs (point_number (length g.sizes) (corner_offset kind (length g.sizes) rank k)))
-          (λ k. positive_at (volume kind g iso None) (corner kind g.sizes (number * per + rank) k)) (corner_count kind (length g.sizes)) corner_sign
+      (λ k. positive_at (volume kind g iso None) (corner kind g.sizes (number * per + rank) k)) (corner_count kind (length g.sizes)) corner_sign
 
 -- the label that is put together of a read cube is that of the cell
 pub label_is : {D : ℕ} (kind : Kind) (g : Grid) (iso : ℤ) (d per number rank label : ℕ) (cube : SignedCube D) → length g.sizes ≡ d → IsDimension d
     → HasDimension kind d → per ≡ cells_per_cube kind d → rank < per → IsSignedCube g iso number cube →
     label ≡ set_of (λ k. is_set cube.signs (point_number d (corner_offset kind d rank k))) (corner_count kind d)
-        → label ≡ label_of (volume kind g iso None) (number * per + rank)
+    → label ≡ label_of (volume kind g iso None) (number * per + rank)
 label_is kind g iso d per number rank label cube long is has counted below read made =
     made
     ∙ ap (λ (n : ℕ). set_of (λ k. is_set cube.signs (point_number n (corner_offset kind n rank k))) (corner_count kind n)) (sym long)
     ∙ whole_label kind g iso per number rank cube (subst IsDimension (sym long) is) (subst (HasDimension kind) (sym long) has)
-        (counted ∙ ap (cells_per_cube kind) (sym long)) below read
+    (counted ∙ ap (cells_per_cube kind) (sym long)) below read

@@ -1,5 +1,5 @@
 -- What is read of a cube's samples.
-use Rattle.std.proofs.Common.{◌≡◌, ℕ, zero, suc, ◌+◌, ◌*◌, ◌/◌, ◌%◌, ◌^◌, ◌<◌, ◌≤◌, List, [], ◌∷◌, ◌++◌, length, take, refl, ap, sym, ◌∙◌, arith, ℤ}
+use Rattle.std.proofs.Common.{◌≡◌, ℕ, zero, suc, ◌+◌, ◌*◌, ◌/◌, ◌%◌, ◌^◌, ◌<◌, ◌≤◌, List, [], ◌∷◌, length, take, refl, ap, sym, ◌∙◌, arith, ℤ}
 use Rattle.std.proofs.Common.{pos, ◌+ℤ◌, ◌*ℤ◌, int_le}
 use Rattle.std.specs.Prelude.{All, map, slice_index, slice_index_or, unsigned_abs}
 use Rattle.std.specs.Int.{bit_at}
@@ -47,21 +47,21 @@ sum_small sum s i before small = omega (arith, ints)
 -- a corner is positive where its sample is at least the isovalue
 pub corner_read : (g : Grid) (iso : ℤ) (x : List ℕ) (k : ℕ) → length x ≡ length g.sizes →
     is_positive_at g iso (point (length g.sizes) (λ i. 2 * slice_index x i + 2 * bit_at k i))
-        ≡ int_le iso (slice_index_or g.samples (sample_number g.sizes x + corner_number g.sizes k) (pos 0))
+    ≡ int_le iso (slice_index_or g.samples (sample_number g.sizes x + corner_number g.sizes k) (pos 0))
 corner_read g iso x k long =
     let d : ℕ = length g.sizes in
     let p : List ℕ = point d (λ i. 2 * slice_index x i + 2 * bit_at k i) in
     let even : (i : ℕ) → i < length p → slice_index p i % 2 ≡ 0 = λ i h.
     ap (λ (c : ℕ). c % 2)
-        (coordinate d (λ i. 2 * slice_index x i + 2 * bit_at k i) i (omega (arith, h, length-point d (λ i. 2 * slice_index x i + 2 * bit_at k i))))
-        ∙ even_sum (slice_index x i) (bit_at k i) in
+    (coordinate d (λ i. 2 * slice_index x i + 2 * bit_at k i) i (omega (arith, h, length-point d (λ i. 2 * slice_index x i + 2 * bit_at k i))))
+    ∙ even_sum (slice_index x i) (bit_at k i) in
     let half : halves p ≡ point d (λ i. slice_index x i + bit_at k i) =
-        halves_are d (λ i. 2 * slice_index x i + 2 * bit_at k i) (λ i. slice_index x i + bit_at k i) (λ i h. half_sum (slice_index x i) (bit_at k i)) in
+    halves_are d (λ i. 2 * slice_index x i + 2 * bit_at k i) (λ i. slice_index x i + bit_at k i) (λ i h. half_sum (slice_index x i) (bit_at k i)) in
     let number : sample_number g.sizes (halves p) ≡ sample_number g.sizes x + corner_number g.sizes k =
-        ap (sample_number g.sizes) half ∙ corner_sample_number g.sizes x k long in
+    ap (sample_number g.sizes) half ∙ corner_sample_number g.sizes x k long in
     let s : ℤ = sample_at g.sizes g.samples (halves p) in
     ap (is_positive iso) (even_value g.sizes g.samples p even) ∙ eighths iso s (int_le iso s) refl
-        ∙ ap (λ (n : ℕ). int_le iso (slice_index_or g.samples n (pos 0))) number
+    ∙ ap (λ (n : ℕ). int_le iso (slice_index_or g.samples n (pos 0))) number
   where
     even_sum : (a c : ℕ) → (2 * a + 2 * c) % 2 ≡ 0
     even_sum a c = omega arith
@@ -76,9 +76,9 @@ centre_read g iso x long three =
     let p : List ℕ = point 3 (λ i. 2 * slice_index x i + 1) in
     let odd : slice_index p 0 % 2 ≡ 1 = odd_one (slice_index x 0) in
     let half : halves p ≡ point 3 (λ i. slice_index x i) =
-        halves_are 3 (λ i. 2 * slice_index x i + 1) (λ i. slice_index x i) (λ i h. half_one (slice_index x i)) in
+    halves_are 3 (λ i. 2 * slice_index x i + 1) (λ i. slice_index x i) (λ i h. half_one (slice_index x i)) in
     ap (is_positive iso) (odd_value g.sizes g.samples p (omega arith) odd)
-        ∙ ap (λ (y : List ℕ). is_positive iso (total (cube_samples g.sizes g.samples y))) (half ∙ by_coordinates x 3 (long ∙ three))
+    ∙ ap (λ (y : List ℕ). is_positive iso (total (cube_samples g.sizes g.samples y))) (half ∙ by_coordinates x 3 (long ∙ three))
   where
     odd_one : (a : ℕ) → (2 * a + 1) % 2 ≡ 1
     odd_one a = omega arith
@@ -138,7 +138,7 @@ pub samples_are : (sizes : List ℕ) (samples : List ℤ) (x : List ℕ) → len
     → face_samples samples (map (corner_number sizes) (numbers (2 ^ length sizes))) (sample_number sizes x) ≡ cube_samples sizes samples x
 samples_are sizes samples x long =
     sym (map_twice (λ k. sample_at sizes samples (point (length sizes) (λ i. slice_index x i + bit_at k i)))
-        (λ step. slice_index_or samples (sample_number sizes x + step) (pos 0)) (corner_number sizes)
+    (λ step. slice_index_or samples (sample_number sizes x + step) (pos 0)) (corner_number sizes)
     (λ k. ap (λ (n : ℕ). slice_index_or samples n (pos 0)) (corner_sample_number sizes x k long)) (numbers (2 ^ length sizes)))
 
 -- ---- the signs of a cube's points

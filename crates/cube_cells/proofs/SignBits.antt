@@ -1,5 +1,5 @@
 -- Numbers by their bits.
-use Rattle.std.proofs.Common.{◌≡◌, ℕ, zero, suc, ◌+◌, ◌-◌, ◌^◌, ◌<◌, Bool, true, false, refl, ap, sym, ◌∙◌, subst, arith}
+use Rattle.std.proofs.Common.{◌≡◌, ℕ, zero, suc, ◌+◌, ◌-◌, ◌^◌, ◌<◌, Bool, refl, ap, sym, ◌∙◌, subst, arith}
 use Rattle.std.specs.Prelude.{if◌then◌else◌, ◌==◌}
 use Rattle.std.specs.Int.{bit_at}
 use Rattle.std.proofs.lemmas.Nat.Bits.{bit_at_cat_low, bit_at_cat_high}
@@ -30,8 +30,8 @@ pub top_bit : (n number next : ℕ) (b : Bool) → number < 2 ^ n → next ≡ n
 top_bit n number next b few next_is =
     let none : n - n ≡ 0 = omega arith in
     bit_is_test b (bit_at next n)
-        (ap (λ (s : ℕ). bit_at s n) (next_is ∙ as_product b n number) ∙ bit_at_cat_high (if b then 1 else 0) n number n few (omega arith)
-             ∙ ap (bit_at (if b then 1 else 0)) none ∙ one_bit b)
+    (ap (λ (s : ℕ). bit_at s n) (next_is ∙ as_product b n number) ∙ bit_at_cat_high (if b then 1 else 0) n number n few (omega arith)
+    ∙ ap (bit_at (if b then 1 else 0)) none ∙ one_bit b)
 
 -- the same tests make the same number
 pub same_bits : (F G : ℕ → Bool) (n : ℕ) → ((k : ℕ) → k < n → F k ≡ G k) → set_of F n ≡ set_of G n

@@ -1,10 +1,10 @@
 //! Cubes of a grid, each read once.
 
-ghost use Rattle.std.specs.Prelude.{◌≡◌, ℕ, ℤ, ◌+◌, ◌*◌, ◌^◌, ◌<◌, ◌≤◌, None, length, slice_index, unsigned_abs};
-ghost use Rattle.iso_model.specs.Splits.{cube_count, edge as edge_of};
-ghost use Rattle.iso_model.specs.Values.{Grid as Samples, IsRegularGrid, volume, label_of};
+ghost use Rattle.std.specs.Prelude.{◌≡◌, ℕ, ◌^◌, ◌<◌, ◌≤◌, length, slice_index, unsigned_abs};
+ghost use Rattle.iso_model.specs.Splits.{cube_count};
+ghost use Rattle.iso_model.specs.Values.{IsRegularGrid};
 ghost use Rattle.mixed_cubes.specs.CubePlaces.{place_of};
-ghost use Rattle.cube_cells.specs.SignedCubes.{AreSteps, IsSignedCube};
+ghost use Rattle.cube_cells.specs.SignedCubes.{AreSteps, IsSignedCube, WhereRead, label_there, edge_there};
 
 use crate::bits::{is_set, with_bit};
 use crate::points::{place_at, point_number, point_signs};
@@ -45,7 +45,7 @@ impl<const D: usize> SignedCube<D> {
     /// The label of the cell of this rank, which is below `PER_CUBE`: bit k is set where corner k is positive.
     pub fn label<C: Split<D>>(&self, rank: u32) -> u32
         requires rank { rank < C.PER_CUBE }
-        ensures label { (g : Samples) (iso : ℤ) (number : ℕ) → length g.sizes ≡ D → IsSignedCube g iso number self.now → result ≡ label_of (volume C.KIND g iso None) (number * C.PER_CUBE + rank) }
+        ensures label { WhereRead self.now (λ g iso n. result ≡ label_there C.KIND C.PER_CUBE rank g iso n) }
         ensures few { result < 2 ^ C.CORNERS }
     {
         let mut label = 0;
@@ -61,8 +61,8 @@ impl<const D: usize> SignedCube<D> {
         requires rank { rank < C.PER_CUBE }
         requires edge { edge < C.EDGES }
         requires few { (i : ℕ) → i < D → slice_index self.now.place i < 2 ^ 27 }
-        ensures low { (g : Samples) (iso : ℤ) (number : ℕ) → length g.sizes ≡ D → IsSignedCube g iso number self.now → result.low ≡ (edge_of C.KIND g.sizes (number * C.PER_CUBE + rank) edge).low }
-        ensures high { (g : Samples) (iso : ℤ) (number : ℕ) → length g.sizes ≡ D → IsSignedCube g iso number self.now → result.high ≡ (edge_of C.KIND g.sizes (number * C.PER_CUBE + rank) edge).high }
+        ensures low { WhereRead self.now (λ g _ n. result.low ≡ (edge_there C.KIND C.PER_CUBE rank edge g n).low) }
+        ensures high { WhereRead self.now (λ g _ n. result.high ≡ (edge_there C.KIND C.PER_CUBE rank edge g n).high) }
     {
         let (first, second) = C::edge_ends(edge);
         let from = placed(&self.place, &C::offset(rank, first));

@@ -1,13 +1,12 @@
 //! The points of a cube: its corners and its centre.
 
 ghost use Rattle.std.specs.Prelude.{◌≡◌, ℕ, ◌+◌, ◌*◌, ◌^◌, ◌<◌, ◌≤◌, length, slice_index, All, int_le, unsigned_abs};
-ghost use Rattle.lists.specs.Bits.{is_set as is_set_in};
 ghost use Rattle.iso_model.specs.Turns.{total};
 ghost use Rattle.iso_model.specs.Splits.{cube_count, cube_at};
 ghost use Rattle.iso_model.specs.Values.{is_positive as is_positive_in};
 ghost use Rattle.iso_model.specs.Dimensions.{IsDimension};
 ghost use Rattle.mixed_cubes.specs.CubeFaces.{face_samples};
-ghost use Rattle.cube_cells.specs.CubePoints.{sizes_of, set_of, corner_sample, point_number as number_of};
+ghost use Rattle.cube_cells.specs.CubePoints.{HasCornerSigns, HasCentreSign, sizes_of, set_of, corner_sample, point_number as number_of};
 
 use crate::bits::with_bit;
 
@@ -34,8 +33,8 @@ pub(crate) fn point_signs(samples: &[i64], steps: &[u32], first: u32, iso: i64) 
     requires few { length samples.now ≤ 2 ^ 27 }
     requires small { All (λ s. unsigned_abs s ≤ 2 ^ 32) samples.now }
     requires iso { unsigned_abs iso ≤ 2 ^ 40 }
-    ensures corners { (k : ℕ) → k < length steps.now → is_set_in result k ≡ int_le iso (corner_sample samples.now steps.now first k) }
-    ensures centre { length steps.now ≡ 8 → is_set_in result 8 ≡ is_positive_in iso (total (face_samples samples.now steps.now first)) }
+    ensures corners { HasCornerSigns iso samples.now steps.now first result }
+    ensures centre { HasCentreSign iso samples.now steps.now first result }
 {
     let signs = corner_signs(samples, steps, first, iso);
     if steps.len() != 8 {

@@ -1,6 +1,6 @@
 -- What is added to a list of edges.
 use Rattle.std.proofs.Common.{◌≡◌, ℕ, ◌+◌, ◌-◌, ◌*◌, ◌^◌, ◌<◌, Bool, true, false, List, [], ◌∷◌, ◌++◌, length, refl, sym, ◌∙◌, subst, arith, inl, inr}
-use Rattle.std.specs.Prelude.{Result, Ok, Err, OnOk, ◌⊎◌, ◌↔◌, ◌||◌, slice_index, Contains, if◌then◌else◌}
+use Rattle.std.specs.Prelude.{◌⊎◌, ◌↔◌, ◌||◌, slice_index, Contains, if◌then◌else◌}
 use Rattle.std.specs.List.{list_any}
 use Rattle.std.proofs.lemmas.Bool.{false≢true, cases_lt}
 use Rattle.std.proofs.lemmas.Nat.Bits.{bit_at-zero, bit_at_ones}
@@ -8,7 +8,7 @@ use Rattle.grid_split.specs.declared.split.Edge.{Edge}
 use Rattle.iso_model.specs.declared.Kind.{Kind}
 use Rattle.iso_model.specs.Cells.{edge_ends}
 use Rattle.iso_model.specs.Splits as Splits
-use Rattle.iso_model.specs.Bipolar.{differ, is_bipolar_in}
+use Rattle.iso_model.specs.Bipolar.{is_bipolar_in}
 use Rattle.iso_model.specs.Values.{Volume, label_of}
 use Rattle.edge_vertex.specs.EdgeValue.{edge_of, edges_of, Adds, IsBipolarAt, IsBipolarOf, IsBipolarFrom}
 use Rattle.lists.specs.Bits.{is_set}
@@ -31,11 +31,11 @@ adds_last : {D : ℕ} (x : Edge D) (ks : List (Edge D)) → Adds (λ e. edge_of 
 adds_last x [] e = (
   λ c. elim (Contains-split e (edge_of x) [] c) as (λ _. Contains [] e ⊎ (edge_of x ≡ e)) [ inl same ↦ inr same | inr c' ↦ inl c' ],
   λ c.
-      elim c as (λ _. Contains (edge_of x ∷ []) e)
-          [
-            inl c' ↦ absurd (none_contained e c') | inr same ↦ subst (λ (z : Splits.Edge). Contains (edge_of x ∷ []) z) same
-                (Contains-head (edge_of x) [])
-          ],
+      elim c as (λ _. Contains (edge_of x ∷ []) e) [
+        | inl c' ↦ absurd (none_contained e c')
+        | inr same ↦ subst (λ (z : Splits.Edge). Contains (edge_of x ∷ []) z) same
+            (Contains-head (edge_of x) [])
+      ],
 )
 adds_last x (y ∷ ks) e = (
   λ c. elim (Contains-split e (edge_of y) (edges_of (ks ++ x ∷ [])) c) as (λ _. Contains (edges_of (y ∷ ks)) e ⊎ (edge_of x ≡ e)) [
@@ -117,7 +117,7 @@ pub next_edge : (kind : Kind) (sizes : List ℕ) (cell label n : ℕ) (old mid n
     → Adds (IsBipolarOf kind sizes cell label (n + 1)) old new
 next_edge kind sizes cell label n old mid new a b =
     adds_more (IsBipolarOf kind sizes cell label n) (IsBipolarAt kind sizes cell label n) (IsBipolarOf kind sizes cell label (n + 1)) old mid new
-        (λ e. one_below (λ k. IsBipolarAt kind sizes cell label k e) n) a b
+    (λ e. one_below (λ k. IsBipolarAt kind sizes cell label k e) n) a b
 
 pub at_bipolar : (kind : Kind) (sizes : List ℕ) (cell label n : ℕ) (x : Splits.Edge) (old new : List Splits.Edge)
     → is_bipolar_in kind (length sizes) label n ≡ true → x ≡ Splits.edge kind sizes cell n → Adds (λ e. x ≡ e) old new
@@ -132,18 +132,18 @@ not_bipolar kind sizes cell label n old not_so = adds_none (IsBipolarAt kind siz
 pub no_ranks : (v : Volume) (n first : ℕ) (old : List Splits.Edge) → Adds (IsBipolarFrom v n first 0) old old
 no_ranks v n first old =
     adds_none (IsBipolarFrom v n first 0) old
-        (λ e r. none_below (λ rank. IsBipolarOf v.kind v.sizes (first + rank) (label_of v (first + rank)) n e) r)
+    (λ e r. none_below (λ rank. IsBipolarOf v.kind v.sizes (first + rank) (label_of v (first + rank)) n e) r)
 
 pub next_rank : (v : Volume) (n first rank cell label : ℕ) (old mid new : List Splits.Edge) → cell ≡ first + rank → label ≡ label_of v cell
     → Adds (IsBipolarFrom v n first rank) old mid → Adds (IsBipolarOf v.kind v.sizes cell label n) mid new
     → Adds (IsBipolarFrom v n first (rank + 1)) old new
 next_rank v n first rank cell label old mid new at is a b =
     let labelled : Adds (IsBipolarOf v.kind v.sizes cell (label_of v cell) n) mid new =
-        subst (λ (l : ℕ). Adds (IsBipolarOf v.kind v.sizes cell l n) mid new) is b in
+    subst (λ (l : ℕ). Adds (IsBipolarOf v.kind v.sizes cell l n) mid new) is b in
     let placed : Adds (IsBipolarOf v.kind v.sizes (first + rank) (label_of v (first + rank)) n) mid new =
-        subst (λ (c : ℕ). Adds (IsBipolarOf v.kind v.sizes c (label_of v c) n) mid new) at labelled in
+    subst (λ (c : ℕ). Adds (IsBipolarOf v.kind v.sizes c (label_of v c) n) mid new) at labelled in
     adds_more (IsBipolarFrom v n first rank) (IsBipolarOf v.kind v.sizes (first + rank) (label_of v (first + rank)) n)
-        (IsBipolarFrom v n first (rank + 1)) old mid new
+    (IsBipolarFrom v n first (rank + 1)) old mid new
     (λ e. one_below (λ r. IsBipolarOf v.kind v.sizes (first + r) (label_of v (first + r)) n e) rank) a placed
 
 -- an edge that is bipolar in a cell of one of the first k cubes of a list, of which each has this many cells
@@ -157,7 +157,7 @@ pub next_cube : (v : Volume) (n per : ℕ) (cubes : List ℕ) (k : ℕ) (mid new
     → Adds (IsBipolarFrom v n (slice_index cubes k * per) per) mid new → Adds (InCubes v n per cubes (k + 1)) [] new
 next_cube v n per cubes k mid new a b =
     adds_more (InCubes v n per cubes k) (IsBipolarFrom v n (slice_index cubes k * per) per) (InCubes v n per cubes (k + 1)) [] mid new
-        (λ e. one_below (λ i. IsBipolarFrom v n (slice_index cubes i * per) per e) k) a b
+    (λ e. one_below (λ i. IsBipolarFrom v n (slice_index cubes i * per) per e) k) a b
 
 pub from_nothing : (P : Splits.Edge → Type 0) (new : List Splits.Edge) → Adds P [] new → (e : Splits.Edge) → Contains new e ↔ P e
 from_nothing P new a e = (
@@ -178,7 +178,7 @@ none_negative kind sizes cell label n e zero_label r =
 
 pub none_positive : (kind : Kind) (sizes : List ℕ) (cell label n corners : ℕ) (e : Splits.Edge) → label + 1 ≡ 2 ^ corners
     → ((k : ℕ) → k < n → ((edge_ends kind (length sizes) k).0 < corners) × ((edge_ends kind (length sizes) k).1 < corners))
-        → IsBipolarOf kind sizes cell label n e → ⊥
+    → IsBipolarOf kind sizes cell label n e → ⊥
 none_positive kind sizes cell label n corners e full inside r =
     let ends = edge_ends kind (length sizes) r.0 in
     let here = inside r.0 r.1 in
@@ -192,7 +192,7 @@ none_positive kind sizes cell label n corners e full inside r =
 
 pub all_positive : (kind : Kind) (sizes : List ℕ) (cell label n corners : ℕ) (old : List Splits.Edge) → label + 1 ≡ 2 ^ corners
     → ((k : ℕ) → k < n → ((edge_ends kind (length sizes) k).0 < corners) × ((edge_ends kind (length sizes) k).1 < corners))
-        → Adds (IsBipolarOf kind sizes cell label n) old old
+    → Adds (IsBipolarOf kind sizes cell label n) old old
 all_positive kind sizes cell label n corners old full inside =
     adds_none (IsBipolarOf kind sizes cell label n) old (λ e r. none_positive kind sizes cell label n corners e full inside r)
 

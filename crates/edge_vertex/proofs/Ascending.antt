@@ -40,7 +40,7 @@ reversed_is d sum p q ls lp lq at =
     let inside : i < d = omega (arith, h, ls) in
     let place : length (plus p q) - 1 - i ≡ d - 1 - i = ap (λ (n : ℕ). n - 1 - i) whole in
     at i inside ∙ sym (plus_at p q (d - 1 - i) (omega (arith, inside, lp)) same) ∙ ap (slice_index (plus p q)) (sym place)
-        ∙ sym (get_or-reverse (plus p q) i 0 (omega (arith, inside, whole))))
+    ∙ sym (get_or-reverse (plus p q) i 0 (omega (arith, inside, whole))))
 
 -- ---- the order of keys
 
@@ -80,10 +80,10 @@ keys_ordered (x ∷ p) (y ∷ q) l h =
           let parts = and_parts (same_list p q) (nat_lt x y) same in
           let equal : p ≡ q = (bytes_eq-Decides p q).0 parts.0 in
           subst (λ (r : List ℕ). is_lt (slice_cmp nat_cmp (reverse p ++ x ∷ []) (reverse r ++ y ∷ [])) ≡ true) equal
-              (cmp_same (reverse p) x y (lt_of x y parts.1))
+          (cmp_same (reverse p) x y (lt_of x y parts.1))
     ] in
     ap (λ (r : List ℕ). is_lt (slice_cmp nat_cmp r (reverse (y ∷ q)))) front
-        ∙ ap (λ (r : List ℕ). is_lt (slice_cmp nat_cmp (reverse p ++ x ∷ []) r)) other ∙ ordered
+    ∙ ap (λ (r : List ℕ). is_lt (slice_cmp nat_cmp (reverse p ++ x ∷ []) r)) other ∙ ordered
 
 -- ---- neighbours in a sorted list
 
@@ -107,14 +107,14 @@ ascends {D} n (x ∷ keys) given wide own k d h =
     let at_a : slice_index_or (edges_of (x ∷ keys)) k d ≡ edge_of a = get_or-map edge_of (x ∷ keys) k x d (omega (arith, inside)) in
     let at_b : slice_index_or (edges_of (x ∷ keys)) (k + 1) d ≡ edge_of b = get_or-map edge_of (x ∷ keys) (k + 1) x d inside in
     let in_a : Contains (edges_of (x ∷ keys)) (edge_of a) =
-        subst (Contains (edges_of (x ∷ keys))) at_a (Contains-at (edges_of (x ∷ keys)) k d (omega (arith, h))) in
+    subst (Contains (edges_of (x ∷ keys))) at_a (Contains-at (edges_of (x ∷ keys)) k d (omega (arith, h))) in
     let in_b : Contains (edges_of (x ∷ keys)) (edge_of b) = subst (Contains (edges_of (x ∷ keys))) at_b (Contains-at (edges_of (x ∷ keys)) (k + 1) d h) in
     let same : length (Splits.midpoint (edge_of a)) ≡ length (Splits.midpoint (edge_of b)) = wide (edge_of a) in_a ∙ sym (wide (edge_of b) in_b) in
     let sorted : is_lt (slice_cmp nat_cmp (reverse (Splits.midpoint (edge_of b))) (reverse (Splits.midpoint (edge_of a)))) ≡ false =
-        given.sorted k x (omega arith) inside in
+    given.sorted k x (omega arith) inside in
     let ordered : comes_first (Splits.midpoint (edge_of a)) (Splits.midpoint (edge_of b)) ≡ true =
     elim (comes_first-total (Splits.midpoint (edge_of a)) (Splits.midpoint (edge_of b)) same) as
-        (λ _. comes_first (Splits.midpoint (edge_of a)) (Splits.midpoint (edge_of b)) ≡ true) [
+    (λ _. comes_first (Splits.midpoint (edge_of a)) (Splits.midpoint (edge_of b)) ≡ true) [
       | inl less ↦ less
       | inr (inl equal) ↦
           let one : edge_of a ≡ edge_of b = own (edge_of a) (edge_of b) in_a in_b equal in

@@ -1,5 +1,5 @@
 -- Values of points by the places of samples.
-use Rattle.std.proofs.Common.{◌≡◌, ℕ, suc, ◌+◌, ◌*◌, ◌/◌, ◌%◌, ◌<◌, true, false, List, [], ◌∷◌, length, refl, ap, ◌∙◌, arith, ℤ, pos, ◌+ℤ◌, ◌*ℤ◌}
+use Rattle.std.proofs.Common.{◌≡◌, ℕ, ◌+◌, ◌*◌, ◌/◌, ◌%◌, ◌<◌, true, false, List, [], ◌∷◌, refl, ap, ◌∙◌, arith, ℤ, pos, ◌+ℤ◌, ◌*ℤ◌}
 use Rattle.std.specs.Prelude.{slice_index, ◌==◌}
 use Rattle.std.specs.List.{list_all}
 use Rattle.std.proofs.lemmas.Int.{ints}
@@ -31,7 +31,7 @@ corners_total : (samples : List ℤ) (n m k x y z : ℕ) →
 corners_total samples n m k x y z =
     let first : ℕ = x + n * (y + m * (z + k * 0)) in
     let s : (a b c place : ℕ) → first + c * (n * m) + b * n + a ≡ place
-        → sample samples ((x + a) + n * ((y + b) + m * ((z + c) + k * 0))) ≡ sample samples place =
+    → sample samples ((x + a) + n * ((y + b) + m * ((z + c) + k * 0))) ≡ sample samples place =
     λ a b c place e. ap (sample samples) (corner_place n m k x y z a b c ∙ e) in
     rw (
       s 0 0 0 first (omega arith),

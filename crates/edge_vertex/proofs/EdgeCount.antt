@@ -54,10 +54,10 @@ number_fixed (n ∷ sizes) (c ∷ x) (e ∷ y) lx ly hx hy same =
     let he : e < n = hy 0 (omega arith) in
     let first : c ≡ e = sym (mod-mul-add (sample_number sizes x) n c hc) ∙ ap (λ (v : ℕ). v % n) turned ∙ mod-mul-add (sample_number sizes y) n e he in
     let others : sample_number sizes x ≡ sample_number sizes y =
-        sym (div-mul-add (sample_number sizes x) n c hc) ∙ ap (λ (v : ℕ). v / n) turned ∙ div-mul-add (sample_number sizes y) n e he in
+    sym (div-mul-add (sample_number sizes x) n c hc) ∙ ap (λ (v : ℕ). v / n) turned ∙ div-mul-add (sample_number sizes y) n e he in
     let tails : x ≡ y =
-        number_fixed sizes x y (omega (arith, lx)) (omega (arith, ly)) (λ i h. hx (suc i) (omega (arith, h))) (λ i h. hy (suc i) (omega (arith, h)))
-            others in
+    number_fixed sizes x y (omega (arith, lx)) (omega (arith, ly)) (λ i h. hx (suc i) (omega (arith, h))) (λ i h. hy (suc i) (omega (arith, h)))
+    others in
     rw (first, tails) refl
 
 -- ---- midpoints
@@ -101,7 +101,7 @@ halves_long sizes m is = length-map m (λ c. c / 2) ∙ is.long ∙ sym (length-
 half_number : (sizes m : List ℕ) → IsMidpoint sizes m → sample_number (doubled sizes) (halves m) < 2 ^ length sizes * product sizes
 half_number sizes m is =
     subst (λ (p : ℕ). sample_number (doubled sizes) (halves m) < p) (product_doubled sizes)
-        (number_in (doubled sizes) (halves m) (halves_long sizes m is) (halves_inside sizes m is))
+    (number_in (doubled sizes) (halves m) (halves_long sizes m is) (halves_inside sizes m is))
 
 sixteen : (d p : ℕ) → IsDimension d → 2 ^ d * p ≤ 16 * p
 sixteen d p (inl e) = rw e (omega arith)
@@ -135,13 +135,13 @@ from_halves : (sizes m n : List ℕ) → IsMidpoint sizes m → IsMidpoint sizes
     → ((i : ℕ) → i < length sizes → slice_index m i % 2 ≡ slice_index n i % 2) → m ≡ n
 from_halves sizes m n im jn same parities =
     let equal : halves m ≡ halves n =
-        number_fixed (doubled sizes) (halves m) (halves n) (halves_long sizes m im) (halves_long sizes n jn) (halves_inside sizes m im)
-            (halves_inside sizes n jn) same in
+    number_fixed (doubled sizes) (halves m) (halves n) (halves_long sizes m im) (halves_long sizes n jn) (halves_inside sizes m im)
+    (halves_inside sizes n jn) same in
     lists_same m n (im.long ∙ sym jn.long) (λ i h.
     let below : i < length sizes = omega (arith, h, im.long) in
     let half : slice_index m i / 2 ≡ slice_index n i / 2 =
-        sym (get_or-map (λ c. c / 2) m i 0 0 h) ∙ ap (λ (xs : List ℕ). slice_index xs i) equal
-            ∙ get_or-map (λ c. c / 2) n i 0 0 (omega (arith, below, jn.long)) in
+    sym (get_or-map (λ c. c / 2) m i 0 0 h) ∙ ap (λ (xs : List ℕ). slice_index xs i) equal
+    ∙ get_or-map (λ c. c / 2) n i 0 0 (omega (arith, below, jn.long)) in
     let left : slice_index m i % 2 ≡ slice_index n i % 2 = parities i below in
     omega (arith, half, left))
 
@@ -191,7 +191,7 @@ sum_odd x a b one = omega (arith, one)
 pub edge_midpoint : (kind : Kind) (sizes : List ℕ) (cell k : ℕ) → IsDimension (length sizes) → HasDimension kind (length sizes)
     → cell < cell_count kind sizes → 0 < cells_per_cube kind (length sizes) →
     (edge_ends kind (length sizes) k).0 < corner_count kind (length sizes) → (edge_ends kind (length sizes) k).1 < corner_count kind (length sizes)
-        → IsMidpoint sizes (midpoint (Splits.edge kind sizes cell k))
+    → IsMidpoint sizes (midpoint (Splits.edge kind sizes cell k))
 edge_midpoint kind sizes cell k is has hc some first second =
     let d : ℕ = length sizes in
     let ends = edge_ends kind d k in
@@ -202,7 +202,7 @@ edge_midpoint kind sizes cell k is has hc some first second =
     let m : List ℕ = midpoint (Splits.edge kind sizes cell k) in
     let at : (i : ℕ) → i < d → slice_index m i ≡ (2 * slice_index x i + slice_index a i) + (2 * slice_index x i + slice_index b i) = λ i h.
     sum_of_ends (corner kind sizes cell ends.0) (corner kind sizes cell ends.1) i (omega (arith, h, length-corner kind sizes cell ends.0))
-        (length-corner kind sizes cell ends.0 ∙ sym (length-corner kind sizes cell ends.1))
+    (length-corner kind sizes cell ends.0 ∙ sym (length-corner kind sizes cell ends.1))
     ∙ ap (λ (c : ℕ). c + slice_index (corner kind sizes cell ends.1) i) (coordinate d (λ i. 2 * slice_index x i + slice_index a i) i h)
     ∙ ap (λ (c : ℕ). (2 * slice_index x i + slice_index a i) + c) (coordinate d (λ i. 2 * slice_index x i + slice_index b i) i h) in
     let below : (i : ℕ) → i < d → slice_index x i + 1 < slice_index sizes i = cube_below sizes (cell / cells_per_cube kind d) (cube_in kind sizes cell hc) in
@@ -214,43 +214,41 @@ edge_midpoint kind sizes cell k is has hc some first second =
       inside = λ i h. rw (at i h) (sum_inside (slice_index x i) (slice_index a i) (slice_index b i) (slice_index sizes i) (small_a i) (small_b i) (below i h));
       parity = elim (offset_case kind d rank ends.0 has) as
           (λ _. ((i : ℕ) → i < d → slice_index m i % 2 ≡ 0) ⊎ ((d ≡ 3) × ((i : ℕ) → i < d → slice_index m i % 2 ≡ 1))) [
-        | inl even ↦ elim (offset_case kind d rank ends.1 has) as
-            (λ _. ((i : ℕ) → i < d → slice_index m i % 2 ≡ 0) ⊎ ((d ≡ 3) × ((i : ℕ) → i < d → slice_index m i % 2 ≡ 1))) [
-          | inl other ↦
-              inl
-                  (λ i h.
-                       let ea : slice_index a i % 2 ≡ 0 = even i h in
-                       let eb : slice_index b i % 2 ≡ 0 = other i h in
-                       rw (at i h) (sum_even (slice_index x i) (slice_index a i) (slice_index b i) (ea ∙ sym eb)))
-          | inr centre ↦
-              inr
-                  (
-                    centre.0,
-                    λ i h.
-                        let ea : slice_index a i % 2 ≡ 0 = even i h in
-                        let eb : slice_index b i ≡ 1 = centre.1 i (omega (arith, h, centre.0)) in
-                        rw (at i h) (sum_odd (slice_index x i) (slice_index a i) (slice_index b i) (omega (arith, ea, eb)))
-                  )
-        ]
-        | inr centre ↦ elim (offset_case kind d rank ends.1 has) as
-            (λ _. ((i : ℕ) → i < d → slice_index m i % 2 ≡ 0) ⊎ ((d ≡ 3) × ((i : ℕ) → i < d → slice_index m i % 2 ≡ 1))) [
-          | inl other ↦
-              inr
-                  (
-                    centre.0,
-                    λ i h.
-                        let ea : slice_index a i ≡ 1 = centre.1 i (omega (arith, h, centre.0)) in
-                        let eb : slice_index b i % 2 ≡ 0 = other i h in
-                        rw (at i h) (sum_odd (slice_index x i) (slice_index a i) (slice_index b i) (omega (arith, ea, eb)))
-                  )
-          | inr other ↦
-              inl
-                  (λ i h.
-                       let ea : slice_index a i ≡ 1 = centre.1 i (omega (arith, h, centre.0)) in
-                       let eb : slice_index b i ≡ 1 = other.1 i (omega (arith, h, centre.0)) in
-                       rw (at i h) (sum_even (slice_index x i) (slice_index a i) (slice_index b i) (ap (λ (n : ℕ). n % 2) (ea ∙ sym eb))))
-        ]
-      ];
+            | inl even ↦ elim (offset_case kind d rank ends.1 has) as
+                (λ _. ((i : ℕ) → i < d → slice_index m i % 2 ≡ 0) ⊎ ((d ≡ 3) × ((i : ℕ) → i < d → slice_index m i % 2 ≡ 1))) [
+                  | inl other ↦
+                      inl
+                      (λ i h.
+                      let ea : slice_index a i % 2 ≡ 0 = even i h in
+                      let eb : slice_index b i % 2 ≡ 0 = other i h in
+                      rw (at i h) (sum_even (slice_index x i) (slice_index a i) (slice_index b i) (ea ∙ sym eb)))
+                  | inr centre ↦
+                      inr (
+                        centre.0,
+                        λ i h.
+                            let ea : slice_index a i % 2 ≡ 0 = even i h in
+                            let eb : slice_index b i ≡ 1 = centre.1 i (omega (arith, h, centre.0)) in
+                            rw (at i h) (sum_odd (slice_index x i) (slice_index a i) (slice_index b i) (omega (arith, ea, eb))),
+                      )
+                ]
+            | inr centre ↦ elim (offset_case kind d rank ends.1 has) as
+                (λ _. ((i : ℕ) → i < d → slice_index m i % 2 ≡ 0) ⊎ ((d ≡ 3) × ((i : ℕ) → i < d → slice_index m i % 2 ≡ 1))) [
+                  | inl other ↦
+                      inr (
+                        centre.0,
+                        λ i h.
+                            let ea : slice_index a i ≡ 1 = centre.1 i (omega (arith, h, centre.0)) in
+                            let eb : slice_index b i % 2 ≡ 0 = other i h in
+                            rw (at i h) (sum_odd (slice_index x i) (slice_index a i) (slice_index b i) (omega (arith, ea, eb))),
+                      )
+                  | inr other ↦
+                      inl
+                      (λ i h.
+                      let ea : slice_index a i ≡ 1 = centre.1 i (omega (arith, h, centre.0)) in
+                      let eb : slice_index b i ≡ 1 = other.1 i (omega (arith, h, centre.0)) in
+                      rw (at i h) (sum_even (slice_index x i) (slice_index a i) (slice_index b i) (ap (λ (n : ℕ). n % 2) (ea ∙ sym eb))))
+                ]
+          ];
     }
 
 -- ---- different edges of a grid are fewer than 2^32
@@ -262,9 +260,9 @@ IsGridEdge kind sizes e = (cell : ℕ) × (cell < cell_count kind sizes) × HasE
 pub grid_edge_midpoint : (kind : Kind) (sizes : List ℕ) (e : Splits.Edge) → IsDimension (length sizes) → HasDimension kind (length sizes)
     → 0 < cells_per_cube kind (length sizes) →
     ((k : ℕ) → k < edge_count kind (length sizes)
-         → ((edge_ends kind (length sizes) k).0 < corner_count kind (length sizes))
-               × ((edge_ends kind (length sizes) k).1 < corner_count kind (length sizes)))
-        →
+    → ((edge_ends kind (length sizes) k).0 < corner_count kind (length sizes))
+    × ((edge_ends kind (length sizes) k).1 < corner_count kind (length sizes)))
+    →
     IsGridEdge kind sizes e → IsMidpoint sizes (midpoint e)
 grid_edge_midpoint kind sizes e is has some ends r =
     let k : ℕ = r.2.0 in
@@ -274,7 +272,7 @@ grid_edge_midpoint kind sizes e is has some ends r =
 pub few_edges : {D : ℕ} (kind : Kind) (sizes : List ℕ) (keys : List (Edge D)) → IsDimension (length sizes) → product sizes ≤ 134217728
     → HaveOwnMidpoints kind sizes →
     ((e : Splits.Edge) → Contains (edges_of keys) e → IsGridEdge kind sizes e)
-        → ((e : Splits.Edge) → Contains (edges_of keys) e → IsMidpoint sizes (midpoint e)) →
+    → ((e : Splits.Edge) → Contains (edges_of keys) e → IsMidpoint sizes (midpoint e)) →
     ((i j : ℕ) (d : Edge D) → i < j → j < length keys → slice_index_or keys i d ≡ slice_index_or keys j d → ⊥) → length keys < 4294967296
 few_edges kind sizes [] is few own has mid apart = omega arith
 few_edges {D} kind sizes (x ∷ keys) is few own has mid apart =
@@ -285,11 +283,11 @@ few_edges {D} kind sizes (x ∷ keys) is few own has mid apart =
     member : (i : ℕ) → i < length (x ∷ keys) → Contains (edges_of (x ∷ keys)) (edge_of (slice_index_or (x ∷ keys) i x))
     member i h =
         subst (Contains (edges_of (x ∷ keys))) (get_or-map (edge_of {D = D}) (x ∷ keys) i x (edge_of x) h)
-            (Contains-at (edges_of (x ∷ keys)) i (edge_of x) (omega (arith, h, length-map (x ∷ keys) (edge_of {D = D}))))
+        (Contains-at (edges_of (x ∷ keys)) i (edge_of x) (omega (arith, h, length-map (x ∷ keys) (edge_of {D = D}))))
 
     numbered : (i d : ℕ) → i < length (x ∷ keys)
         → slice_index_or (map (λ (e : Edge D). number sizes (midpoint (edge_of e))) (x ∷ keys)) i d
-              ≡ number sizes (midpoint (edge_of (slice_index_or (x ∷ keys) i x)))
+        ≡ number sizes (midpoint (edge_of (slice_index_or (x ∷ keys) i x)))
     numbered i d h = get_or-map (λ (e : Edge D). number sizes (midpoint (edge_of e))) (x ∷ keys) i x d h
 
     same_edges : (i j : ℕ) → i < length (x ∷ keys) → j < length (x ∷ keys)
@@ -301,17 +299,17 @@ few_edges {D} kind sizes (x ∷ keys) is few own has mid apart =
         let ha = has (edge_of a) (member i hi) in
         let hb = has (edge_of b) (member j hj) in
         let one : edge_of a ≡ edge_of b =
-            own ha.0 hb.0 (edge_of a) (edge_of b) ha.1 hb.1 ha.2 hb.2
-                (number_own sizes (midpoint (edge_of a)) (midpoint (edge_of b)) is (mid (edge_of a) (member i hi)) (mid (edge_of b) (member j hj))
-                     same) in
+        own ha.0 hb.0 (edge_of a) (edge_of b) ha.1 hb.1 ha.2 hb.2
+        (number_own sizes (midpoint (edge_of a)) (midpoint (edge_of b)) is (mid (edge_of a) (member i hi)) (mid (edge_of b) (member j hj))
+        same) in
         let low : a.low ≡ b.low = ap (λ (e : Splits.Edge). e.low) one in
         let high : a.high ≡ b.high = ap (λ (e : Splits.Edge). e.high) one in
         λ t. record { low = low t; high = high t }
 
     differ : (i j d : ℕ) → i < j → j < length (map (λ (e : Edge D). number sizes (midpoint (edge_of e))) (x ∷ keys))
         → eqb (slice_index_or (map (λ (e : Edge D). number sizes (midpoint (edge_of e))) (x ∷ keys)) i d)
-              (slice_index_or (map (λ (e : Edge D). number sizes (midpoint (edge_of e))) (x ∷ keys)) j d)
-              ≡ false
+        (slice_index_or (map (λ (e : Edge D). number sizes (midpoint (edge_of e))) (x ∷ keys)) j d)
+        ≡ false
     differ i j d less hj =
         let inside : j < length (x ∷ keys) = omega (arith, hj, length-map (x ∷ keys) (λ (e : Edge D). number sizes (midpoint (edge_of e)))) in
         let first : i < length (x ∷ keys) = omega (arith, inside, less) in
@@ -328,10 +326,10 @@ few_edges {D} kind sizes (x ∷ keys) is few own has mid apart =
         let any = Any-from_list_any (eqb q) (map (λ (e : Edge D). number sizes (midpoint (edge_of e))) (x ∷ keys)) h in
         let k : ℕ = any.0 in
         let inside : k < length (x ∷ keys) =
-            let there : any.0 < length (map (λ (e : Edge D). number sizes (midpoint (edge_of e))) (x ∷ keys)) = any.2 in
-            omega (arith, there, length-map (x ∷ keys) (λ (e : Edge D). number sizes (midpoint (edge_of e)))) in
+        let there : any.0 < length (map (λ (e : Edge D). number sizes (midpoint (edge_of e))) (x ∷ keys)) = any.2 in
+        omega (arith, there, length-map (x ∷ keys) (λ (e : Edge D). number sizes (midpoint (edge_of e)))) in
         let is_q : q ≡ number sizes (midpoint (edge_of (slice_index_or (x ∷ keys) k x))) = eqb-true q any.1 any.4 ∙ sym any.3 ∙ numbered k any.1 inside in
         let small : number sizes (midpoint (edge_of (slice_index_or (x ∷ keys) k x))) < 2147483648 =
-            number_few sizes (midpoint (edge_of (slice_index_or (x ∷ keys) k x))) is few
-                (mid (edge_of (slice_index_or (x ∷ keys) k x)) (member k inside)) in
+        number_few sizes (midpoint (edge_of (slice_index_or (x ∷ keys) k x))) is few
+        (mid (edge_of (slice_index_or (x ∷ keys) k x)) (member k inside)) in
         omega (arith, is_q, small)

@@ -2,7 +2,6 @@
 use Rattle.std.proofs.Common.{◌≡◌, ℕ, suc, ◌+◌, ◌<◌, ◌≤◌, Bool, true, false, not, cond, List, [], ◌∷◌, length, Option, Some, None, refl, sym, ap, subst, arith}
 use Rattle.std.specs.Prelude.{map, nat_lt}
 use Rattle.std.specs.List.{position_or_len}
-use Rattle.std.proofs.lemmas.Bool.{false≢true}
 use Rattle.std.proofs.lemmas.Bool.Decides.{nat_tests}
 use Rattle.std.proofs.lemmas.Slice.Eq.{bytes_eq-Decides}
 use borrow.Author.Tests.{ltb-true}
@@ -36,7 +35,7 @@ pub edge_place : {D : ℕ} (E : Edge D → Bool) (x : Edge D) (xs : List (Edge D
     → ((y : Edge D) → x ≡ y → E y ≡ true) → position_or_len E xs ≡ place_in (edges_of xs) (edge_of x)
 edge_place E x xs same itself =
     place_same E (same_edge (edge_of x)) edge_of
-        (λ y. same_tests (E y) (same_edge (edge_of x) (edge_of y)) (λ h. edge_itself x y (same y h)) (λ h. itself y (same_ends x y h))) xs
+    (λ y. same_tests (E y) (same_edge (edge_of x) (edge_of y)) (λ h. edge_itself x y (same y h)) (λ h. itself y (same_ends x y h))) xs
 
 abbrev pub nothing : Option ℕ
 nothing = None

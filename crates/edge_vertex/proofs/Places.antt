@@ -2,7 +2,7 @@
 use Rattle.std.proofs.Common.{◌≡◌, ℕ, zero, suc, ◌+◌, ◌*◌, ◌/◌, ◌<◌, ◌≤◌, List, [], ◌∷◌, length, refl, ap, sym, ◌∙◌, arith, add-one, drop-cons}
 use Rattle.std.specs.Prelude.{slice_index, drop, map}
 use Rattle.std.proofs.lemmas.List.{get_or-map, length-map, drop_all}
-use Rattle.std.proofs.Math.Nat.{mul-le-mul_left, mul-le-mul_right}
+use Rattle.std.proofs.Math.Nat.{mul-le-mul_right}
 use Rattle.iso_model.specs.Values.{product, sample_number}
 use Rattle.grid_split.proofs.CubeNumbers.{product_of}
 use Rattle.lists.proofs.Tests.{next_below}
@@ -50,11 +50,11 @@ pub one_axis_more : (sizes p : List ℕ) (i place : ℕ) → i < length sizes �
 one_axis_more sizes p i place h long inside from =
     let half : slice_index (halves p) i ≡ slice_index p i / 2 = get_or-map (λ c. c / 2) p i 0 0 (omega (arith, h, long)) in
     let at : sample_number (drop i sizes) (drop i (halves p))
-        ≡ slice_index (halves p) i + slice_index sizes i * sample_number (drop (i + 1) sizes) (drop (i + 1) (halves p)) =
+    ≡ slice_index (halves p) i + slice_index sizes i * sample_number (drop (i + 1) sizes) (drop (i + 1) (halves p)) =
     number_step sizes (halves p) i h (omega (arith, h, long, length-map p (λ c. c / 2))) in
     let some =
-        λ (j : ℕ) (k : j < length sizes).
-            let here : slice_index p j / 2 < slice_index sizes j = inside j k in zero_below (slice_index p j / 2) (slice_index sizes j) here in
+    λ (j : ℕ) (k : j < length sizes).
+    let here : slice_index p j / 2 < slice_index sizes j = inside j k in zero_below (slice_index p j / 2) (slice_index sizes j) here in
     let below : slice_index p i / 2 + slice_index sizes i * place < product (drop i sizes) =
     rw (product_step sizes i h) (next_below (slice_index p i / 2) (slice_index sizes i) place (product (drop (i + 1) sizes)) (inside i h) from.below) in
     record {
@@ -62,8 +62,8 @@ one_axis_more sizes p i place h long inside from =
       next = record {
         number =
             sym
-                (at ∙ ap (λ (x : ℕ). x + slice_index sizes i * sample_number (drop (i + 1) sizes) (drop (i + 1) (halves p))) half
-                     ∙ ap (λ (m : ℕ). slice_index p i / 2 + slice_index sizes i * m) (sym from.number));
+            (at ∙ ap (λ (x : ℕ). x + slice_index sizes i * sample_number (drop (i + 1) sizes) (drop (i + 1) (halves p))) half
+            ∙ ap (λ (m : ℕ). slice_index p i / 2 + slice_index sizes i * m) (sym from.number));
         below = below;
       };
     }

@@ -1,6 +1,5 @@
-ghost use Rattle.std.specs.Prelude.{◌≡◌, ◌+◌, ◌<◌, ◌≤◌, Some, length, slice_get, MatchOption};
-ghost use Rattle.iso_model.specs.Bipolar.{place_in};
-ghost use Rattle.edge_vertex.specs.EdgeValue.{edge_of, edges_of};
+ghost use Rattle.std.specs.Prelude.{◌≡◌, ◌+◌, ◌<◌, ◌≤◌, Some, length, slice_get};
+ghost use Rattle.edge_vertex.specs.EdgeValue.{edge_of, edges_of, TellsPlace};
 
 use crate::nearby::NearbyHasher;
 use grid_split::Edge;
@@ -53,7 +52,7 @@ impl<const D: usize> EdgeList<D> {
 
     /// The number of the edge, or `None` where it is not in the list.
     pub fn place(&self, edge: &Edge<D>) -> Option<u32>
-        ensures { MatchOption result (place_in self.now (edge_of edge.now) ≡ length self.now) (λ k. (k ≡ place_in self.now (edge_of edge.now)) × (k < length self.now)) }
+        ensures { TellsPlace self.now (edge_of edge.now) result }
     {
         match self.edges.get_index_of(edge) {
             Some(place) => Some(place as u32),

@@ -1,12 +1,11 @@
-ghost use Rattle.std.specs.Prelude.{◌≡◌, ℕ, ℤ, ◌+◌, ◌*◌, ◌^◌, [], ◌<◌, ◌≤◌, ◌↔◌, None, Contains, length, OnOk, IfOk, unsigned_abs, reverse, IsSortedByKey, IsPermutation, slice_index, slice_index_or};
+ghost use Rattle.std.specs.Prelude.{◌≡◌, ℕ, ◌+◌, ◌^◌, [], ◌<◌, ◌≤◌, None, length, OnOk, IfOk, unsigned_abs, reverse, IsSortedByKey, IsPermutation, slice_index};
 ghost use Rattle.std.specs.Ordering.{nat_cmp};
 ghost use Rattle.std.specs.Cmp.Lexicographic.{slice_cmp};
 ghost use Rattle.iso_model.specs.Points.{plus};
-ghost use Rattle.iso_model.specs.Splits.{cell_count, Edge as GridEdge};
-ghost use Rattle.iso_model.specs.Values.{Grid as Samples, IsRegularGrid, volume};
+ghost use Rattle.iso_model.specs.Values.{IsRegularGrid, volume};
 ghost use Rattle.iso_model.specs.Dimensions.{IsDimension};
-ghost use Rattle.cube_cells.specs.SignedCubes.{IsSignedCube};
-ghost use Rattle.edge_vertex.specs.EdgeValue.{edge_of, edges_of, Adds, IsBipolarOf, IsBipolarAt, IsBipolarFrom, IsBipolarEdge, order_of};
+ghost use Rattle.edge_vertex.specs.EdgeValue.{edge_of, edges_of, order_of, Adds, AddsRead, AreBipolarEdges, StandApart};
+ghost use Rattle.edge_vertex.specs.EdgeValue.{IsBipolarThere, IsBipolarOfCell, IsBipolarOfCube};
 ghost use Rattle.iso_model.specs.Bipolar.{bipolar_edges};
 
 use crate::edges::{EdgeList, EdgeSet};
@@ -48,7 +47,7 @@ fn all_bipolar<C: Split<D>, const D: usize>(
     requires regular { IsRegularGrid grid.now }
     requires axes { length grid.now.sizes ≡ D }
     requires iso { unsigned_abs iso ≤ 2 ^ 40 }
-    ensures { IfOk result (λ edges. (e : GridEdge) → Contains (edges_of edges.keys) e ↔ IsBipolarEdge (volume C.KIND grid.now iso None) C.EDGES (cell_count C.KIND grid.now.sizes) e) }
+    ensures { IfOk result (λ edges. AreBipolarEdges (volume C.KIND grid.now iso None) C.EDGES (edges_of edges.keys)) }
 {
     let cubes = mixed_cubes(alloc, grid, iso)?;
     let steps = CubeSteps::new(grid);
@@ -77,7 +76,7 @@ fn add_cube<C: Split<D>, const D: usize>(
     cube: &SignedCube<D>,
 ) -> Result<(), Memory>
     requires few { (i : ℕ) → i < D → slice_index cube.now.place i < 2 ^ 27 }
-    ensures { (g : Samples) (iso : ℤ) (number : ℕ) → length g.sizes ≡ D → IsSignedCube g iso number cube.now → OnOk result (Adds (IsBipolarFrom (volume C.KIND g iso None) C.EDGES (number * C.PER_CUBE) C.PER_CUBE) (edges_of edges.old.keys) (edges_of edges.new.keys)) }
+    ensures { AddsRead cube.now result (IsBipolarOfCube C.KIND C.PER_CUBE C.EDGES) edges.old.keys edges.new.keys }
 {
     for rank in 0..C::PER_CUBE {
         let label = cube.label::<C>(rank);
@@ -96,7 +95,7 @@ fn add_cell<C: Split<D>, const D: usize>(
     requires few { (i : ℕ) → i < D → slice_index cube.now.place i < 2 ^ 27 }
     requires rank { rank < C.PER_CUBE }
     requires label { label < 2 ^ C.CORNERS }
-    ensures { (g : Samples) (iso : ℤ) (number : ℕ) → length g.sizes ≡ D → IsSignedCube g iso number cube.now → OnOk result (Adds (IsBipolarOf C.KIND g.sizes (number * C.PER_CUBE + rank) label C.EDGES) (edges_of edges.old.keys) (edges_of edges.new.keys)) }
+    ensures { AddsRead cube.now result (IsBipolarOfCell C.KIND C.PER_CUBE rank label C.EDGES) edges.old.keys edges.new.keys }
 {
     if label == 0 {
         return Ok(());
@@ -121,7 +120,7 @@ fn add_if<C: Split<D>, const D: usize>(
     requires few { (i : ℕ) → i < D → slice_index cube.now.place i < 2 ^ 27 }
     requires rank { rank < C.PER_CUBE }
     requires edge { edge < C.EDGES }
-    ensures { (g : Samples) (iso : ℤ) (number : ℕ) → length g.sizes ≡ D → IsSignedCube g iso number cube.now → OnOk result (Adds (IsBipolarAt C.KIND g.sizes (number * C.PER_CUBE + rank) label edge) (edges_of edges.old.keys) (edges_of edges.new.keys)) }
+    ensures { AddsRead cube.now result (IsBipolarThere C.KIND C.PER_CUBE rank label edge) edges.old.keys edges.new.keys }
 {
     if is_bipolar::<C, D>(label, edge) {
         return add(edges, cube.edge::<C>(rank, edge));
@@ -151,7 +150,7 @@ fn add<const D: usize>(edges: &mut EdgeSet<D>, edge: Edge<D>) -> Result<(), Memo
 fn sort_edges<const D: usize>(edges: &mut EdgeSet<D>) -> Result<(), Memory>
     requires { IsDimension D }
     ensures sorted { OnOk result (IsSortedByKey order_of (slice_cmp nat_cmp) edges.new.keys) }
-    ensures apart { OnOk result ((i j : ℕ) (d : Edge D) → i < j → j < length edges.new.keys → slice_index_or edges.new.keys i d ≡ slice_index_or edges.new.keys j d → ⊥) }
+    ensures apart { OnOk result (StandApart edges.new.keys) }
     ensures reordered { OnOk result (IsPermutation edges.old.keys edges.new.keys) }
 {
     let sorted = edges.sort_unstable_by_key(

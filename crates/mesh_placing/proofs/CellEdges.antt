@@ -1,31 +1,29 @@
 -- The edges of a cell that are bipolar in its label are in the list of all bipolar edges, and each edge of that list can be crossed.
-use Rattle.std.proofs.Common.{◌≡◌, ℕ, ◌+◌, ◌*◌, ◌<◌, ◌≤◌, Bool, true, false, List, [], ◌∷◌, length, cond, not, None, ℤ, refl, sym, ap, ◌∙◌, subst}
+use Rattle.std.proofs.Common.{◌≡◌, ℕ, ◌+◌, ◌*◌, ◌<◌, ◌≤◌, Bool, true, false, List, [], ◌∷◌, length, cond, not, None, ℤ, sym, ap, ◌∙◌, subst}
 use Rattle.std.proofs.Common.{arith, inl, inr}
-use Rattle.std.specs.Prelude.{filter, flat_map, map, Contains, All, slice_index, if◌then◌else◌}
+use Rattle.std.specs.Prelude.{filter, Contains, All, slice_index, if◌then◌else◌}
 use Rattle.std.specs.List.{position_or_len}
 use Rattle.iso_model.specs.declared.Kind.{Kind}
 use Rattle.lists.specs.Orders.{numbers}
 use Rattle.iso_model.specs.Points.{comes_first}
 use Rattle.iso_model.specs.Cells.{HasDimension, edge_ends, edge_count, corner_count}
-use Rattle.iso_model.specs.Splits.{Edge, edge, edge_of_ends, corner, corner_offset, cell_count, cells_per_cube, cube_of, rank_of}
+use Rattle.iso_model.specs.Splits.{Edge, edge, corner, corner_offset, cell_count, cells_per_cube, cube_of, rank_of}
 use Rattle.iso_model.specs.Bipolar.{differ, is_bipolar, is_bipolar_in, cell_edges, kept_edges, bipolar_edges, same_edge, place_in}
 use Rattle.iso_model.specs.Values.{Grid, Volume, volume, cells, positive_at, label_of, HasValue}
 use Rattle.iso_model.proofs.BipolarLaws.{kept_edge-has, bipolar_edges-are, length-corner}
 use Rattle.iso_model.proofs.DimensionLaws.{dimension_cases}
-use Rattle.iso_model.specs.Dimensions.{IsDimension, of_each_cell}
+use Rattle.iso_model.specs.Dimensions.{IsDimension}
 use Rattle.split_laws.proofs.Coordinates.{coordinate, rank_below}
 use Rattle.split_laws.proofs.Passed.{ends_are_corners}
 use Rattle.split_laws.proofs.SplitTheorems.{own_midpoints, small_offsets}
 use Rattle.edge_vertex.specs.EdgeEnds.{AreNear}
 use Rattle.edge_vertex.proofs.Corners.{corner_value}
 use Rattle.mesh_placing.specs.Placing.{IsCrossed}
-use Rattle.std.proofs.lemmas.Slice.Eq.{bytes_eq-Decides}
-use Rattle.lists.specs.Orders.{same_list}
 use Rattle.lists.specs.Bits.{is_set}
 use Rattle.lists.proofs.Contained.{All-from_each, Contains-mapped, Contains-filtered, Contains-joined, contained_below}
 use Rattle.lists.specs.Members.{In}
-use Rattle.lists.proofs.MemberLaws.{In_from, Contains_from, In-map, In-numbers, In-filter, from_filter}
-use Rattle.iso_model.proofs.SignLaws.{differ-exchanged, either_order, label_bit, edge_itself}
+use Rattle.lists.proofs.MemberLaws.{In_from, Contains_from, from_filter}
+use Rattle.iso_model.proofs.SignLaws.{either_order, label_bit, edge_itself}
 use Rattle.iso_model.proofs.CellCounts.{some_ranks}
 
 -- ---- the place of a member
@@ -67,11 +65,11 @@ bipolar_edge-listed v has cell e kept he bipolar =
     let ends = ends_are_corners v.kind (length v.sizes) is has e he in
     let so : is_bipolar v (edge v.kind v.sizes cell e) ≡ true = in_label v cell e ends.0 ends.1 ∙ bipolar in
     let in_cell : Contains (cell_edges v cell) (edge v.kind v.sizes cell e) =
-        Contains-mapped (edge v.kind v.sizes cell) (numbers (edge_count v.kind (length v.sizes))) e
-            (contained_below (edge_count v.kind (length v.sizes)) e he) in
+    Contains-mapped (edge v.kind v.sizes cell) (numbers (edge_count v.kind (length v.sizes))) e
+    (contained_below (edge_count v.kind (length v.sizes)) e he) in
     ((bipolar_edges-are v (own_midpoints v.kind v.sizes is has)).members (edge v.kind v.sizes cell e)).1
     (Contains-filtered (is_bipolar v) (kept_edges v) (edge v.kind v.sizes cell e) so
-         (Contains-joined (cell_edges v) (cells v) cell (edge v.kind v.sizes cell e) kept in_cell))
+    (Contains-joined (cell_edges v) (cells v) cell (edge v.kind v.sizes cell e) kept in_cell))
 
 -- ---- what can be crossed
 
@@ -89,14 +87,14 @@ module _ (kind : Kind) (sizes : List ℕ) (has : HasDimension kind (length sizes
       let inside : i < d = omega (arith, h, length-corner kind sizes cell j) in
       let below : rank < cells_per_cube kind d = rank_below kind sizes cell (some_ranks kind d is has) in
       near (slice_index x i) (slice_index (corner_offset kind d rank j) i) (slice_index (corner_offset kind d rank k) i)
-          (slice_index (corner kind sizes cell j) i) (slice_index (corner kind sizes cell k) i)
+      (slice_index (corner kind sizes cell j) i) (slice_index (corner kind sizes cell k) i)
       (small_offsets kind d is has rank j i below hj) (small_offsets kind d is has rank k i below hk)
       (coordinate d (λ i. 2 * slice_index x i + slice_index (corner_offset kind d rank j) i) i inside)
       (coordinate d (λ i. 2 * slice_index x i + slice_index (corner_offset kind d rank k) i) i inside)
 
   ends_valued : (cell e : ℕ) → cell < cell_count kind sizes → e < edge_count kind (length sizes)
       → HasValue sizes (edge kind sizes cell e).low × HasValue sizes (edge kind sizes cell e).high
-          × AreNear (edge kind sizes cell e).low (edge kind sizes cell e).high
+      × AreNear (edge kind sizes cell e).low (edge kind sizes cell e).high
   ends_valued cell e hc he =
       let d : ℕ = length sizes in
       let is : IsDimension d = dimension_cases kind d has in
@@ -110,8 +108,8 @@ module _ (kind : Kind) (sizes : List ℕ) (has : HasDimension kind (length sizes
     where
       go : (b : Bool) (p q : List ℕ) → HasValue sizes p → HasValue sizes q → AreNear p q → AreNear q p
           → let e : Edge =
-              (if b then record { low = p; high = q } else record { low = q; high = p }) in HasValue sizes e.low × HasValue sizes e.high
-                  × AreNear e.low e.high
+          (if b then record { low = p; high = q } else record { low = q; high = p }) in HasValue sizes e.low × HasValue sizes e.high
+          × AreNear e.low e.high
       go true p q hp hq pq qp = (hp, hq, pq)
       go false p q hp hq pq qp = (hq, hp, qp)
 

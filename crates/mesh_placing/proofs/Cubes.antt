@@ -49,7 +49,7 @@ pub odd_in_cube : (kind : Kind) (d : ℕ) (sizes : List ℕ) (number per rank : 
 odd_in_cube kind d sizes number per rank axes counted h =
     let here : per ≡ cells_per_cube kind (length sizes) = counted ∙ ap (cells_per_cube kind) (sym axes) in
     let rank_is : (number * per + rank) % cells_per_cube kind (length sizes) ≡ rank =
-        ap (λ (n : ℕ). (number * per + rank) % n) (sym here) ∙ mod-mul-add number per rank h in
+    ap (λ (n : ℕ). (number * per + rank) % n) (sym here) ∙ mod-mul-add number per rank h in
     ap (is_odd_rank kind (length sizes)) rank_is ∙ ap (λ (n : ℕ). is_odd_rank kind n rank) axes
 
 -- a cell of a cube that is not mixed has no simplices
@@ -61,20 +61,20 @@ plain_cell kind g iso t edges cell fits plain =
     let below = labelled kind g iso t fits cell in
     let none : entry_of t label ≡ [] =
     plain_entry kind (length g.sizes) label (entry_of t label) (has kind g iso t fits) (fits.keeps_edges label below)
-        (entry_sound kind g iso t fits label below) (has_plain_label kind g iso cell (has kind g iso t fits) plain) in
+    (entry_sound kind g iso t fits label below) (has_plain_label kind g iso cell (has kind g iso t fits) plain) in
     ap (placed_tuples kind g.sizes edges cell) none
 
 -- the simplices of the cells of the mixed cubes are those of all cells
 pub mixed_simplices : (kind : Kind) (g : Grid) (iso : ℤ) (t : Table) (edges : List Edge) → FitsGrid kind g t
     → flat_map (λ cube. flat_map (cell_simplices (volume kind g iso None) t edges) (cube_cells kind (length g.sizes) cube))
-          (filter (is_mixed g iso) (numbers (cube_count g.sizes)))
-        ≡ flat_map (cell_simplices (volume kind g iso None) t edges) (cells (volume kind g iso None))
+    (filter (is_mixed g iso) (numbers (cube_count g.sizes)))
+    ≡ flat_map (cell_simplices (volume kind g iso None) t edges) (cells (volume kind g iso None))
 mixed_simplices kind g iso t edges fits =
     let f : ℕ → List (List ℕ) = cell_simplices (volume kind g iso None) t edges in
     let m : ℕ = cells_per_cube kind (length g.sizes) in
     flat_map-filter (λ cube. flat_map f (cube_cells kind (length g.sizes) cube)) (is_mixed g iso) (numbers (cube_count g.sizes))
     (λ cube c plain.
-         flat_map-empty f (cube_cells kind (length g.sizes) cube)
-             (λ cell i. plain_cell kind g iso t edges cell fits (ap (is_mixed g iso) (cube_of_cell kind (length g.sizes) cube cell i) ∙ plain)))
+    flat_map-empty f (cube_cells kind (length g.sizes) cube)
+    (λ cell i. plain_cell kind g iso t edges cell fits (ap (is_mixed g iso) (cube_of_cell kind (length g.sizes) cube cell i) ∙ plain)))
     ∙ flat_map-numbers_times f (cube_count g.sizes) m
     ∙ ap (flat_map f) (sym (cells-all kind g iso))

@@ -1,15 +1,14 @@
 -- Lists that are made member by member.
 use Rattle.std.proofs.Common.{◌≡◌, ◌≢◌, ℕ, zero, suc, ◌+◌, ◌*◌, ◌<◌, Bool, true, false, List, [], ◌∷◌, ◌++◌, length, map, take, get_or, refl, sym, ap}
 use Rattle.std.proofs.Common.{◌∙◌, arith, append_assoc, below_more, get_or-set_other, get_or-set_same}
-use Rattle.std.specs.Prelude.{Contains, if◌then◌else◌, filter, flat_map, slice_index, slice_index_or, slice_set}
+use Rattle.std.specs.Prelude.{Contains, if◌then◌else◌, filter, flat_map, slice_index_or, slice_set}
 use Rattle.std.specs.List.{range_with_len, swap}
 use Rattle.std.proofs.Math.ListN.{length-set}
-use Rattle.std.proofs.lemmas.List.{take_more, map-append, flat_map_more, get_or-map, length-map}
+use Rattle.std.proofs.lemmas.List.{take_more, map-append, flat_map_more}
 use Rattle.std.proofs.lemmas.Grind.{flat_map-append}
 use Rattle.std.proofs.lemmas.List.Edits.{swap_is}
 use Rattle.lists.specs.Orders.{numbers, exchange_last}
 use Rattle.mixed_cubes.proofs.SampleRows.{range_joined}
-use Rattle.split_laws.proofs.Coordinates.{lists_same}
 use Rattle.lists.proofs.Contained.{Contains-head, Contains-tail}
 use Rattle.lists.proofs.MemberLaws.{range-push}
 
@@ -20,7 +19,7 @@ pub flat_map-range_more : {Y : Type 0} (f : ℕ → List Y) (a n : ℕ) (front y
     → next ≡ ys ++ f (a + n) → next ≡ front ++ flat_map f (range_with_len a (n + 1))
 flat_map-range_more {Y} f a n front ys next before now =
     now ∙ ap (λ (zs : List Y). zs ++ f (a + n)) before ∙ flat_map_more f front (range_with_len a n) (a + n)
-        ∙ ap (λ (xs : List ℕ). front ++ flat_map f xs) (sym (range-push a n))
+    ∙ ap (λ (xs : List ℕ). front ++ flat_map f xs) (sym (range-push a n))
 
 -- one member more
 pub flat_map-take_more : {X Y : Type 0} (f : X → List Y) (xs : List X) (i : ℕ) (d : X) (ys next : List Y) → i < length xs
@@ -38,14 +37,14 @@ flat_map-numbers_times {Y} f (suc n) m =
     let zero_first : 0 + n ≡ n = omega arith in
     let more : flat_map G (numbers (suc n)) ≡ flat_map G (numbers n) ++ G n =
     ap (λ (k : ℕ). flat_map G (numbers k)) one
-        ∙ sym (flat_map-range_more G 0 n [] (flat_map G (numbers n)) (flat_map G (numbers n) ++ G (0 + n)) refl refl)
-        ∙ ap (λ (k : ℕ). flat_map G (numbers n) ++ G k) zero_first in
+    ∙ sym (flat_map-range_more G 0 n [] (flat_map G (numbers n)) (flat_map G (numbers n) ++ G (0 + n)) refl refl)
+    ∙ ap (λ (k : ℕ). flat_map G (numbers n) ++ G k) zero_first in
     let whole : suc n * m ≡ n * m + m = omega arith in
     let place : 0 + n * m ≡ n * m = omega arith in
     let split : numbers (suc n * m) ≡ numbers (n * m) ++ range_with_len (n * m) m =
-        ap numbers whole ∙ range_joined 0 (n * m) m ∙ ap (λ (k : ℕ). numbers (n * m) ++ range_with_len k m) place in
+    ap numbers whole ∙ range_joined 0 (n * m) m ∙ ap (λ (k : ℕ). numbers (n * m) ++ range_with_len k m) place in
     more ∙ ap (λ (zs : List Y). zs ++ G n) (flat_map-numbers_times f n m) ∙ sym (flat_map-append f (numbers (n * m)) (range_with_len (n * m) m))
-        ∙ ap (flat_map f) (sym split)
+    ∙ ap (flat_map f) (sym split)
 
 -- members that give nothing
 pub flat_map-empty : {X Y : Type 0} (f : X → List Y) (xs : List X) → ((x : X) → Contains xs x → f x ≡ []) → flat_map f xs ≡ []
@@ -75,9 +74,9 @@ pub map-take_more : {X Y : Type 0} (f : X → Y) (xs : List X) (i : ℕ) (d : X)
     → next ≡ front ++ map f (take (i + 1) xs)
 map-take_more {X} {Y} f xs i d front ys next h before now =
     let more : map f (take (i + 1) xs) ≡ map f (take i xs) ++ f (get_or xs i d) ∷ [] =
-        ap (map f) (take_more xs i d h) ∙ map-append f (take i xs) (get_or xs i d ∷ []) in
+    ap (map f) (take_more xs i d h) ∙ map-append f (take i xs) (get_or xs i d ∷ []) in
     now ∙ ap (λ (zs : List Y). zs ++ f (get_or xs i d) ∷ []) before ∙ append_assoc front (map f (take i xs)) (f (get_or xs i d) ∷ [])
-        ∙ ap (λ (zs : List Y). front ++ zs) (sym more)
+    ∙ ap (λ (zs : List Y). front ++ zs) (sym more)
 
 -- what is written at one place, where what is below holds already
 pub set_next : {X : Type 0} (P : ℕ → X → Type 0) (d : X) (xs : List X) (a n : ℕ) (v : X) → length xs ≡ n → a < n

@@ -1,16 +1,15 @@
 -- The tuples of an entry that has only bipolar edges, placed.
-use Rattle.std.proofs.Common.{◌≡◌, ℕ, suc, ◌+◌, ◌-◌, ◌^◌, ◌<◌, Bool, true, false, List, [], ◌∷◌, length, refl, sym, ap, ◌∙◌, arith, inl, inr}
+use Rattle.std.proofs.Common.{◌≡◌, ℕ, ◌+◌, ◌-◌, ◌^◌, ◌<◌, Bool, true, false, List, [], ◌∷◌, length, refl, sym, ap, ◌∙◌, arith, inl, inr}
 use Rattle.std.specs.Prelude.{◌⊎◌, map, All, slice_index, slice_index_or, not, ◌==◌, ◌&&◌, ◌||◌, if◌then◌else◌}
 use Rattle.std.specs.List.{list_all, list_any}
 use Rattle.std.proofs.lemmas.Bool.{false≢true, and_parts}
 use Rattle.std.proofs.lemmas.Nat.Bits.{bit_at-zero, bit_at_ones}
-use Rattle.std.proofs.lemmas.List.{length-map}
-use Rattle.std.proofs.lemmas.List.Elements.{All-cons, All-map, All-head, All-tail}
+use Rattle.std.proofs.lemmas.List.Elements.{All-map, All-head, All-tail}
 use Rattle.iso_model.specs.declared.Kind.{Kind}
 use Rattle.lists.specs.Orders.{numbers, is_distinct, exchange_last, has}
 use Rattle.iso_model.specs.Cells.{HasDimension, edge_count, edge_ends, corner_count, label_count}
 use Rattle.iso_model.specs.Splits.{Edge, edge, is_odd_cell}
-use Rattle.iso_model.specs.Bipolar.{differ, is_bipolar_in, place_in}
+use Rattle.iso_model.specs.Bipolar.{is_bipolar_in, place_in}
 use Rattle.iso_model.specs.Tables.{IsEntry}
 use Rattle.iso_model.specs.Acceptance.{is_sound_tuple, rule_edges}
 use Rattle.iso_model.specs.Placed.{placed_tuple}
@@ -20,7 +19,7 @@ use Rattle.mesh_placing.specs.Placing.{ArePlaces, placed_tuples}
 use Rattle.lists.specs.Bits.{is_set}
 use Rattle.lists.proofs.Contained.{All-from_each}
 use Rattle.lists.proofs.MemberLaws.{In_from, all_In}
-use Rattle.lists.proofs.Sorting.{length-exchange, All-exchange_last}
+use Rattle.lists.proofs.Sorting.{All-exchange_last}
 use Rattle.iso_model.proofs.SignLaws.{same_signs}
 
 -- each edge of each tuple is bipolar in the label
@@ -29,13 +28,13 @@ pub bipolar_tuples : (kind : Kind) (d label : ℕ) (ws : List (List ℕ)) → ru
 bipolar_tuples kind d label ws h =
     let sound : list_all (is_sound_tuple kind d label) ws ≡ true =
     (and_parts (list_all (is_sound_tuple kind d label) ws)
-         (list_all (λ e. not (is_bipolar_in kind d label e) || list_any (λ w. has w e) ws) (numbers (edge_count kind d))) h).0
-        in
+    (list_all (λ e. not (is_bipolar_in kind d label e) || list_any (λ w. has w e) ws) (numbers (edge_count kind d))) h).0
+    in
     All-from_each (All (λ e. is_bipolar_in kind d label e ≡ true)) ws (λ w c.
     let bipolar : list_all (is_bipolar_in kind d label) w ≡ true =
     (and_parts (length w == d && is_distinct w) (list_all (is_bipolar_in kind d label) w)
-         (all_In (is_sound_tuple kind d label) ws sound w (In_from ws w c))).1
-        in
+    (all_In (is_sound_tuple kind d label) ws sound w (In_from ws w c))).1
+    in
     All-from_each (λ e. is_bipolar_in kind d label e ≡ true) w (λ e i. all_In (is_bipolar_in kind d label) w bipolar e (In_from w e i)))
 
 -- ---- two functions that agree on the members
@@ -53,7 +52,7 @@ placed_agrees odd f g ws a =
 pub placed_by_places : (kind : Kind) (d : ℕ) (sizes : List ℕ) (edges : List Edge) (cell label : ℕ) (places : List ℕ) (ws : List (List ℕ))
     → rule_edges kind d label ws ≡ true → All (All (λ e. e < edge_count kind d)) ws
     → ArePlaces kind d sizes edges cell label (edge_count kind d) places
-        → map (placed_tuple (is_odd_cell kind sizes cell) (λ e. slice_index places e)) ws ≡ placed_tuples kind sizes edges cell ws
+    → map (placed_tuple (is_odd_cell kind sizes cell) (λ e. slice_index places e)) ws ≡ placed_tuples kind sizes edges cell ws
 placed_by_places kind d sizes edges cell label places ws rule below are =
     let bipolar = bipolar_tuples kind d label ws rule in
     placed_agrees (is_odd_cell kind sizes cell) (λ e. slice_index places e) (λ e. place_in edges (edge kind sizes cell e)) ws
@@ -95,8 +94,8 @@ plain_entry kind d label (w ∷ ws) has_it rule sound plain =
     let tuple = sound.1 0 w (omega arith) in
     let long : length w ≡ d = tuple.0 in
     let some : 0 < length w =
-        elim (dimension_cases kind d has_it) as (λ _. 0 < length w)
-            [ inl h ↦ omega (arith, long, h) | inr (inl h) ↦ omega (arith, long, h) | inr (inr h) ↦ omega (arith, long, h) ] in
+    elim (dimension_cases kind d has_it) as (λ _. 0 < length w)
+    [ inl h ↦ omega (arith, long, h) | inr (inl h) ↦ omega (arith, long, h) | inr (inr h) ↦ omega (arith, long, h) ] in
     let first : ℕ = slice_index_or w 0 0 in
     let below : first < edge_count kind d = tuple.1 0 0 some in
     let bipolar : is_bipolar_in kind d label first ≡ true = bipolar_tuples kind d label (w ∷ ws) rule 0 w (omega arith) 0 0 some in

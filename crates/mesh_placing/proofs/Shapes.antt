@@ -59,10 +59,10 @@ module _ (kind : Kind) (g : Grid) (iso : ℤ) (t : Table) (fits : FitsGrid kind 
   pub entry_sound : (label : ℕ) → label < label_count kind (length g.sizes) → IsEntry kind (length g.sizes) (entry_of t label)
   entry_sound label h =
       let labels : label_count t.kind t.dimension ≡ label_count kind (length g.sizes) =
-          ap (λ (k : Kind). label_count k t.dimension) fits.same_kind ∙ ap (label_count kind) fits.same_dimension in
+      ap (λ (k : Kind). label_count k t.dimension) fits.same_kind ∙ ap (label_count kind) fits.same_dimension in
       let inside : label < length t.entries = omega (arith, h, labels, fits.table.whole) in
       subst (λ (d : ℕ). IsEntry kind d (entry_of t label)) fits.same_dimension
-          (subst (λ (k : Kind). IsEntry k t.dimension (entry_of t label)) fits.same_kind (fits.table.sound label [] inside))
+      (subst (λ (k : Kind). IsEntry k t.dimension (entry_of t label)) fits.same_kind (fits.table.sound label [] inside))
 
   -- a placed mesh has the dimension of the grid
   pub placed_mesh-shape : IsMesh (length g.sizes) (placed_mesh here t)
@@ -73,10 +73,10 @@ module _ (kind : Kind) (g : Grid) (iso : ℤ) (t : Table) (fits : FitsGrid kind 
         length-crossing _ _ _ _ ∙ valued_long g.sizes _ low);
     corners = All-flat_map (λ w. length w ≡ length g.sizes) (cell_simplices here t (bipolar_edges here)) (cells here) (λ cell c.
         All-map (λ w. length w ≡ length g.sizes)
-            (placed_tuple (is_odd_cell kind g.sizes cell) (λ e. place_in (bipolar_edges here) (edge kind g.sizes cell e)))
-                (entry_of t (label_of here cell)) (λ k w h.
+        (placed_tuple (is_odd_cell kind g.sizes cell) (λ e. place_in (bipolar_edges here) (edge kind g.sizes cell e)))
+        (entry_of t (label_of here cell)) (λ k w h.
         length-placed (is_odd_cell kind g.sizes cell) (λ e. place_in (bipolar_edges here) (edge kind g.sizes cell e))
-            (slice_index_or (entry_of t (label_of here cell)) k w)
+        (slice_index_or (entry_of t (label_of here cell)) k w)
         ∙ ((entry_sound (label_of here cell) (labelled cell)).1 k w h).0));
   }
 
@@ -95,5 +95,5 @@ module _ (kind : Kind) (g : Grid) (iso : ℤ) (t : Table) (fits : FitsGrid kind 
       All-map (All P) (placed_tuple (is_odd_cell kind g.sizes cell) place) (entry_of t label) (λ k w h.
       All-placed_tuple P (is_odd_cell kind g.sizes cell) place (slice_index_or (entry_of t label) k w) (λ j e i.
       let placed : place (slice_index_or (slice_index_or (entry_of t label) k w) j e) < length edges =
-          lists_edges here has cell c (slice_index_or (slice_index_or (entry_of t label) k w) j e) ((sound.1 k w h).1 j e i) (bipolar k w h j e i) in
+      lists_edges here has cell c (slice_index_or (slice_index_or (entry_of t label) k w) j e) ((sound.1 k w h).1 j e i) (bipolar k w h j e i) in
       omega (arith, placed, length-map edges (vertex_of here)))))

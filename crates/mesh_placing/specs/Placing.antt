@@ -1,25 +1,29 @@
 -- What is made of each bipolar edge and of each cell: a vertex, and the placed tuples of an entry.
-use Rattle.std.specs.Prelude.{◌≡◌, ℕ, ◌+◌, ◌*◌, ◌<◌, true, List, length, map, slice_index, ℤ}
+use Rattle.std.specs.Prelude.{◌≡◌, ℕ, ◌+◌, ◌*◌, ◌<◌, Bool, true, None, List, ◌++◌, length, map, flat_map, slice_index, ℤ, Result, Vec, OnOk}
 use Rattle.std.specs.List.{range_with_len}
 use Rattle.iso_model.specs.declared.Kind.{Kind}
 use Rattle.iso_model.specs.Cells.{edge_count, label_count}
 use Rattle.iso_model.specs.Splits.{Edge, edge, is_odd_cell, cells_per_cube}
-use Rattle.iso_model.specs.Values.{Grid, HasValue, value_at, is_positive}
+use Rattle.iso_model.specs.Values.{Grid, Volume, volume, cells, HasValue, value_at, is_positive}
 use Rattle.iso_model.specs.Bipolar.{differ, is_bipolar_in, place_in}
 use Rattle.iso_model.specs.Crossing.{crossing}
 use Rattle.iso_model.specs.Tables.{Table, IsTable, entry_of}
 use Rattle.iso_model.specs.Acceptance.{rule_edges}
-use Rattle.iso_model.specs.Placed.{placed_tuple}
+use Rattle.iso_model.specs.Placed.{placed_tuple, cell_simplices}
 use Rattle.cube_cells.specs.declared.cubes.SignedCube.{SignedCube}
-use Rattle.cube_cells.specs.SignedCubes.{IsSignedCube}
+use Rattle.cube_cells.specs.SignedCubes.{IsSignedCube, WhereRead}
 use Rattle.edge_vertex.specs.EdgeEnds.{AreNear}
+
+-- the entry of each label has the bipolar edges of the label and no others
+abbrev pub EachKeepsEdges : Kind → ℕ → Table → Type 0
+EachKeepsEdges kind d t = (label : ℕ) → label < label_count kind d → rule_edges kind d label (entry_of t label) ≡ true
 
 -- a table fits a grid: it is one of cells of this kind in the dimension of the grid, and each entry has the bipolar edges of its label and no others
 pub record FitsGrid (kind : Kind) (g : Grid) (t : Table) : Type 0 where
   pub table : IsTable t
   pub same_kind : t.kind ≡ kind
   pub same_dimension : t.dimension ≡ length g.sizes
-  pub keeps_edges : (label : ℕ) → label < label_count kind (length g.sizes) → rule_edges kind (length g.sizes) label (entry_of t label) ≡ true
+  pub keeps_edges : EachKeepsEdges kind (length g.sizes) t
 
 -- an edge of a grid can be crossed at an isovalue: both ends have values, they are near, and one is positive and the other is not
 pub record IsCrossed (g : Grid) (iso : ℤ) (e : Edge) : Type 0 where
@@ -59,3 +63,30 @@ placed_tuples kind sizes edges cell tuples =
 -- the cells of a cube, by their numbers
 abbrev pub cube_cells : Kind → ℕ → ℕ → List ℕ
 cube_cells kind d cube = range_with_len (cube * cells_per_cube kind d) (cells_per_cube kind d)
+
+-- ---- simplices
+
+-- the simplices of all cells of a volume, cell after cell
+abbrev pub simplices_of : Volume → Table → List Edge → List (List ℕ)
+simplices_of v t edges = flat_map (cell_simplices v t edges) (cells v)
+
+-- tuples of edges, each edge replaced by its place, and the last two exchanged where `odd` holds
+abbrev pub placed_by : Bool → List ℕ → List (List ℕ) → List (List ℕ)
+placed_by odd places tuples = map (placed_tuple odd (λ e. slice_index places e)) tuples
+
+-- the simplices of the cells of a cube of a grid are added at the end
+abbrev pub AddsCube : {A : Type 0} → Kind → ℕ → Grid → ℤ → Table → List Edge → ℕ → Vec (List ℕ) A → Vec (List ℕ) A → Type 0
+AddsCube kind d g iso t edges number old new =
+    new.items ≡ old.items ++ flat_map (cell_simplices (volume kind g iso None) t edges) (cube_cells kind d number)
+
+-- ---- the cell of this rank in a cube that was read, each cube with this many cells
+
+-- the places in the list of those of its edges that are bipolar in the label, among those whose numbers are below n
+abbrev pub ArePlacesThere : Kind → ℕ → ℕ → List Edge → ℕ → ℕ → ℕ → List ℕ → Grid → ℤ → ℕ → Type 0
+ArePlacesThere kind d per edges rank label n places g iso number = ArePlaces kind d g.sizes edges (number * per + rank) label n places
+
+-- where a call is `Ok`, it has added the tuples of an entry, each placed
+abbrev pub AddsPlaced : {D : ℕ} {T E A : Type 0} → SignedCube D → Result T E → Kind → ℕ → ℕ → List Edge → List (List ℕ) → Vec (List ℕ) A
+    → Vec (List ℕ) A → Type 0
+AddsPlaced cube call kind per rank edges tuples old new =
+    WhereRead cube (λ g iso number. OnOk call (new.items ≡ old.items ++ placed_tuples kind g.sizes edges (number * per + rank) tuples))

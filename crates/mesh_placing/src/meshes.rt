@@ -1,8 +1,6 @@
 ghost use Rattle.std.specs.Prelude.{◌≡◌, ℕ, ◌^◌, ◌<◌, ◌≤◌, true, None, length, IfOk, All, unsigned_abs, slice_index};
-ghost use Rattle.iso_model.specs.Cells.{label_count};
 ghost use Rattle.iso_model.specs.Values.{IsRegularGrid, volume};
-ghost use Rattle.iso_model.specs.Tables.{entry_of};
-ghost use Rattle.iso_model.specs.Acceptance.{rule_edges};
+ghost use Rattle.mesh_placing.specs.Placing.{EachKeepsEdges};
 ghost use Rattle.iso_model.specs.Faces.{IsMesh};
 ghost use Rattle.iso_model.specs.Placed.{placed_mesh};
 
@@ -29,7 +27,7 @@ pub fn place<C: Split<D>, const D: usize>(
     iso: i64,
 ) -> Result<Mesh<D>, Memory>
     requires kind { table.now.kind ≡ C.KIND }
-    requires edges { (label : ℕ) → label < label_count C.KIND D → rule_edges C.KIND D label (entry_of table.now label) ≡ true }
+    requires edges { EachKeepsEdges C.KIND D table.now }
     requires regular { IsRegularGrid grid.now }
     requires axes { length grid.now.sizes ≡ D }
     requires iso { unsigned_abs iso ≤ 2 ^ 40 }

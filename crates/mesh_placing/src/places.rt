@@ -1,9 +1,8 @@
-ghost use Rattle.std.specs.Prelude.{◌≡◌, ℕ, ℤ, ◌+◌, ◌*◌, ◌^◌, ◌<◌, length, slice_index};
-ghost use Rattle.iso_model.specs.Values.{Grid as Samples};
+ghost use Rattle.std.specs.Prelude.{◌≡◌, ℕ, ◌^◌, ◌<◌, length, slice_index};
 ghost use Rattle.iso_model.specs.Bipolar.{place_in};
-ghost use Rattle.cube_cells.specs.SignedCubes.{IsSignedCube};
+ghost use Rattle.cube_cells.specs.SignedCubes.{WhereRead};
 ghost use Rattle.edge_vertex.specs.EdgeValue.{edge_of};
-ghost use Rattle.mesh_placing.specs.Placing.{HasListedEdges, ArePlaces};
+ghost use Rattle.mesh_placing.specs.Placing.{HasListedEdges, ArePlacesThere};
 
 use cube_cells::{SignedCube, is_bipolar};
 use edge_vertex::EdgeList;
@@ -22,7 +21,7 @@ pub fn cell_places<C: Split<D>, const D: usize>(
     requires few { (i : ℕ) → i < D → slice_index cube.now.place i < 2 ^ 27 }
     requires rank { rank < C.PER_CUBE }
     requires listed { HasListedEdges C.KIND C.PER_CUBE edges.now cube.now rank label }
-    ensures { (g : Samples) (iso : ℤ) (number : ℕ) → length g.sizes ≡ D → IsSignedCube g iso number cube.now → ArePlaces C.KIND D g.sizes edges.now (number * C.PER_CUBE + rank) label C.EDGES result }
+    ensures { WhereRead cube.now (ArePlacesThere C.KIND D C.PER_CUBE edges.now rank label C.EDGES result) }
 {
     let mut places = [0; MOST_EDGES];
     for edge in 0..C::EDGES as u8 {

@@ -1,14 +1,14 @@
-ghost use Rattle.std.specs.Prelude.{◌≡◌, ℕ, ℤ, ◌+◌, ◌*◌, ◌^◌, ◌<◌, ◌≤◌, true, None, ◌++◌, length, map, flat_map, slice_index, OnOk, IfOk, All, unsigned_abs};
+ghost use Rattle.std.specs.Prelude.{◌≡◌, ℕ, ◌^◌, ◌<◌, ◌≤◌, true, None, ◌++◌, length, slice_index, OnOk, IfOk, All, unsigned_abs};
 ghost use Rattle.iso_model.specs.Cells.{label_count};
 ghost use Rattle.iso_model.specs.Splits.{cube_count};
-ghost use Rattle.iso_model.specs.Values.{Grid as Samples, IsRegularGrid, volume, cells};
+ghost use Rattle.iso_model.specs.Values.{IsRegularGrid, volume};
 ghost use Rattle.iso_model.specs.Tables.{entry_of};
 ghost use Rattle.iso_model.specs.Bipolar.{bipolar_edges};
 ghost use Rattle.iso_model.specs.Acceptance.{rule_edges};
-ghost use Rattle.iso_model.specs.Placed.{placed_tuple as placed_tuple_of, cell_simplices};
+ghost use Rattle.iso_model.specs.Placed.{placed_tuple as placed_tuple_of};
 ghost use Rattle.mixed_cubes.specs.CubePlaces.{place_of};
-ghost use Rattle.cube_cells.specs.SignedCubes.{AreSteps, IsSignedCube};
-ghost use Rattle.mesh_placing.specs.Placing.{FitsGrid, HasListedEdges, cube_cells, placed_tuples};
+ghost use Rattle.cube_cells.specs.SignedCubes.{AreSteps};
+ghost use Rattle.mesh_placing.specs.Placing.{FitsGrid, HasListedEdges, AddsCube, AddsPlaced, simplices_of, placed_by};
 
 use crate::places::{MOST_EDGES, cell_places};
 use cube_cells::{CubeSteps, SignedCube};
@@ -33,7 +33,7 @@ pub fn all_simplices<C: Split<D>, const D: usize>(
     requires axes { length grid.now.sizes ≡ D }
     requires iso { unsigned_abs iso ≤ 2 ^ 40 }
     requires listed { edges.now ≡ bipolar_edges (volume C.KIND grid.now iso None) }
-    ensures { IfOk result (λ simplices. simplices.items ≡ flat_map (cell_simplices (volume C.KIND grid.now iso None) table.now edges.now) (cells (volume C.KIND grid.now iso None))) }
+    ensures { IfOk result (λ simplices. simplices.items ≡ simplices_of (volume C.KIND grid.now iso None) table.now edges.now) }
 {
     let cubes = mixed_cubes(alloc, grid, iso)?;
     let steps = CubeSteps::new(grid);
@@ -62,7 +62,7 @@ fn add_cube<C: Split<D>, const D: usize>(
     requires steps { AreSteps grid.now.sizes steps.now }
     requires cube { place.number < cube_count grid.now.sizes }
     requires place { place ≡ place_of grid.now.sizes place.number }
-    ensures { OnOk result (simplices.new.items ≡ simplices.old.items ++ flat_map (cell_simplices (volume C.KIND grid.now iso None) table.now edges.now) (cube_cells C.KIND D place.number)) }
+    ensures { OnOk result (AddsCube C.KIND D grid.now iso table.now edges.now place.number simplices.old simplices.new) }
 {
     let cube = SignedCube::read(grid, steps, place, iso);
     for rank in 0..C::PER_CUBE {
@@ -87,7 +87,7 @@ fn add_cell<C: Split<D>, const D: usize>(
     requires label { label < label_count C.KIND D }
     requires sound { rule_edges C.KIND D label (entry_of table.now label) ≡ true }
     requires listed { HasListedEdges C.KIND C.PER_CUBE edges.now cube.now rank label }
-    ensures { (g : Samples) (iso : ℤ) (number : ℕ) → length g.sizes ≡ D → IsSignedCube g iso number cube.now → OnOk result (simplices.new.items ≡ simplices.old.items ++ placed_tuples C.KIND g.sizes edges.now (number * C.PER_CUBE + rank) (entry_of table.now label)) }
+    ensures { AddsPlaced cube.now result C.KIND C.PER_CUBE rank edges.now (entry_of table.now label) simplices.old simplices.new }
 {
     let _ = table.kind();
     let tuples = table.tuples(label);
@@ -107,7 +107,7 @@ fn add_tuples<const D: usize>(
 ) -> Result<(), Memory>
     requires two { 2 ≤ D }
     requires edges { All (All (λ e. e < 32)) tuples.now }
-    ensures { OnOk result (simplices.new.items ≡ simplices.old.items ++ map (placed_tuple_of odd (λ e. slice_index places.now e)) tuples.now) }
+    ensures { OnOk result (simplices.new.items ≡ simplices.old.items ++ placed_by odd places.now tuples.now) }
 {
     for tuple in tuples {
         if simplices.push(placed_tuple(tuple, places, odd)).is_err() {

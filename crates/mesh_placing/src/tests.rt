@@ -2,9 +2,8 @@
 
 ghost use Rattle.std.specs.Prelude.{◌≡◌, ℕ, ◌≤◌, ◌<◌, true, false, None, IsTrue, length, slice_index_or, IfOk};
 ghost use Rattle.iso_model.specs.Values.{IsRegularGrid};
-ghost use Rattle.iso_model.specs.Cells.{edge_ends, label_count};
-ghost use Rattle.iso_model.specs.Tables.{entry_of};
-ghost use Rattle.iso_model.specs.Acceptance.{rule_edges};
+ghost use Rattle.iso_model.specs.Cells.{edge_ends};
+ghost use Rattle.mesh_placing.specs.Placing.{EachKeepsEdges};
 
 use crate::place;
 use cell_lattice::{CubeCell, SimplexCell};
@@ -132,7 +131,7 @@ fn all_ends<C: Split<D>, const D: usize>() -> [(u8, u8); 32]
 /// Whether each entry has the bipolar edges of its label and no others.
 fn keeps_rule<C: Split<D>, const D: usize>(table: &Table<D>) -> bool
     requires { table.now.kind ≡ C.KIND }
-    ensures { IsTrue result → (label : ℕ) → label < label_count C.KIND D → rule_edges C.KIND D label (entry_of table.now label) ≡ true }
+    ensures { IsTrue result → EachKeepsEdges C.KIND D table.now }
 {
     let all = all_ends::<C, D>();
     let ends = &all[..C::EDGES];

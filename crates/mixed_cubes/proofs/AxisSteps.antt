@@ -80,7 +80,7 @@ pub corner_number_more : (size : ℕ) (others : List ℕ) (k : ℕ) → corner_n
 corner_number_more size others k =
     let bits : map (λ i. bit_at k i) (range_with_len (0 + 1) (length others)) ≡ map (λ i. bit_at (k / 2) i) (range_with_len 0 (length others)) =
     map_shifted (λ i. bit_at k i) 0 (length others)
-        ∙ map_agrees (λ i. bit_at k (suc i)) (λ i. bit_at (k / 2) i) (λ i. bit_at-suc k i) (range_with_len 0 (length others)) in
+    ∙ map_agrees (λ i. bit_at k (suc i)) (λ i. bit_at (k / 2) i) (λ i. bit_at-suc k i) (range_with_len 0 (length others)) in
     ap (λ (b : ℕ). b + size * sample_number others (map (λ i. bit_at k i) (range_with_len (0 + 1) (length others)))) (bit_at_lowest k)
     ∙ ap (λ (xs : List ℕ). k % 2 + size * sample_number others xs) bits
 

@@ -28,12 +28,12 @@ pub offset_case : (kind : Kind) (d rank k : ℕ) → HasDimension kind d → Eve
 offset_case Cube d rank k has = inl (λ i h. rw (coordinate d (λ i. 2 * bit_at k i) i h) (twice_even (bit_at k i)))
 offset_case Simplex d rank k has =
     inl
-        (λ i h.
-             rw (coordinate d (λ i. 2 * count_by (nat_eq i) (take k (axis_order d rank))) i h)
-                 (twice_even (count_by (nat_eq i) (take k (axis_order d rank)))))
+    (λ i h.
+    rw (coordinate d (λ i. 2 * count_by (nat_eq i) (take k (axis_order d rank))) i h)
+    (twice_even (count_by (nat_eq i) (take k (axis_order d rank)))))
 offset_case Pyramid d rank k has =
     let a : ℕ = base_axis rank in
     let s : ℕ = base_side rank in
     subst (λ (n : ℕ). EvenOrCentre n (pyramid_offset a s k)) (sym has)
     (pyramid_case (k == 4) (λ i. if i == a then 2 * s else 2 * bit_at k (if nat_lt i a then i else i - 1))
-         (λ i. side_even (i == a) s (bit_at k (if nat_lt i a then i else i - 1))))
+    (λ i. side_even (i == a) s (bit_at k (if nat_lt i a then i else i - 1))))

@@ -16,7 +16,7 @@ use Rattle.iso_model.specs.Cells.{HasDimension, corner_count}
 use Rattle.iso_model.specs.Splits.{cells_per_cube, cube_of, rank_of, corner, corner_offset}
 use Rattle.iso_model.specs.Values.{Grid, volume, sample_at, cube_samples, value_at, is_positive, positive_at, label_of}
 use Rattle.iso_model.proofs.DimensionLaws.{dimension_cases}
-use Rattle.iso_model.specs.Dimensions.{IsDimension, of_each_cell}
+use Rattle.iso_model.specs.Dimensions.{IsDimension}
 use Rattle.split_laws.proofs.Coordinates.{lists_same, coordinate, length-point, length-cube_at, rank_below}
 use Rattle.split_laws.proofs.SplitTheorems.{small_offsets}
 use Rattle.mixed_cubes.specs.Mixed.{are_mixed, HasPlainLabel}
@@ -79,16 +79,16 @@ eight_samples : (iso : ℤ) (b : Bool) (s t u v w x y z : ℤ) → int_le iso s 
 eight_samples iso true s t u v w x y z hs ht hu hv hw hx hy hz =
     le_test (pos 8 *ℤ iso) (total (s ∷ t ∷ u ∷ v ∷ w ∷ x ∷ y ∷ z ∷ []))
     (eight_least iso s t u v w x y z (least iso s hs) (least iso t ht) (least iso u hu) (least iso v hv) (least iso w hw) (least iso x hx)
-         (least iso y hy) (least iso z hz))
+    (least iso y hy) (least iso z hz))
 eight_samples iso false s t u v w x y z hs ht hu hv hw hx hy hz =
     lt_test (pos 8 *ℤ iso) (total (s ∷ t ∷ u ∷ v ∷ w ∷ x ∷ y ∷ z ∷ []))
     (eight_less iso s t u v w x y z (less iso s hs) (less iso t ht) (less iso u hu) (less iso v hv) (less iso w hw) (less iso x hx) (less iso y hy)
-         (less iso z hz))
+    (less iso z hz))
 
 total_sign : (iso : ℤ) (b : Bool) (xs : List ℤ) → length xs ≡ 8 → AllOfSign iso b xs → int_le (pos 8 *ℤ iso) (total xs) ≡ b
 total_sign iso b (s ∷ t ∷ u ∷ v ∷ w ∷ x ∷ y ∷ z ∷ []) long all =
     eight_samples iso b s t u v w x y z (all 0 (omega arith)) (all 1 (omega arith)) (all 2 (omega arith)) (all 3 (omega arith)) (all 4 (omega arith))
-        (all 5 (omega arith)) (all 6 (omega arith)) (all 7 (omega arith))
+    (all 5 (omega arith)) (all 6 (omega arith)) (all 7 (omega arith))
 total_sign iso b [] long all = absurd (omega (arith, long))
 total_sign iso b (s ∷ []) long all = absurd (omega (arith, long))
 total_sign iso b (s ∷ t ∷ []) long all = absurd (omega (arith, long))
@@ -121,7 +121,7 @@ halves_are d f g same =
     lists_same (halves (point d f)) (point d g) (length-map (point d f) (λ c. c / 2) ∙ length-point d f ∙ sym (length-point d g)) (λ i h.
     let inside : i < d = omega (arith, h, length-map (point d f) (λ c. c / 2), length-point d f) in
     get_or-map (λ c. c / 2) (point d f) i 0 0 (omega (arith, inside, length-point d f)) ∙ ap (λ (c : ℕ). c / 2) (coordinate d f i inside)
-        ∙ same i inside ∙ sym (coordinate d g i inside))
+    ∙ same i inside ∙ sym (coordinate d g i inside))
 
 -- half of coordinates that are 0 or 2 are the bits of a number
 pub offset_bits : (d : ℕ) (o : ℕ → ℕ) → ((i : ℕ) → i < d → (o i % 2 ≡ 0) × (o i ≤ 2)) → (i : ℕ) → i < d → o i ≡ 2 * bit_at (powers_below (λ j. o j == 2) d) i
@@ -149,11 +149,11 @@ at_corner iso b sizes samples x o all small =
     let two : slice_index o i % 2 ≡ 0 = (small i inside).0 in
     ap (λ (c : ℕ). c % 2) (coordinate d (λ i. 2 * slice_index x i + slice_index o i) i inside) ∙ even_sum (slice_index x i) (slice_index o i) two in
     let half : halves p ≡ point d (λ i. slice_index x i + bit_at m.0 i) =
-        halves_are d (λ i. 2 * slice_index x i + slice_index o i) (λ i. slice_index x i + bit_at m.0 i)
-            (λ i h. half_sum (slice_index x i) (slice_index o i) (bit_at m.0 i) (m.2 i h)) in
+    halves_are d (λ i. 2 * slice_index x i + slice_index o i) (λ i. slice_index x i + bit_at m.0 i)
+    (λ i h. half_sum (slice_index x i) (slice_index o i) (bit_at m.0 i) (m.2 i h)) in
     let F : ℕ → ℤ = λ k. sample_at sizes samples (point d (λ i. slice_index x i + bit_at k i)) in
     let sample : slice_index_or (cube_samples sizes samples x) m.0 (pos 0) ≡ sample_at sizes samples (halves p) =
-        get_or-map-range_with_len F 0 (2 ^ d) m.0 m.0 (pos 0) m.1 (omega arith) ∙ ap (sample_at sizes samples) (sym half) in
+    get_or-map-range_with_len F 0 (2 ^ d) m.0 m.0 (pos 0) m.1 (omega arith) ∙ ap (sample_at sizes samples) (sym half) in
     let there : m.0 < length (cube_samples sizes samples x) = let below : m.0 < 2 ^ d = m.1 in omega (arith, below, length-map-range_with_len F 0 (2 ^ d)) in
     ap (is_positive iso) (even_value sizes samples p even) ∙ eighths iso (sample_at sizes samples (halves p)) b (ap (int_le iso) (sym sample) ∙ all m.0 there)
   where
@@ -175,16 +175,16 @@ at_centre iso b sizes samples x o long all three ones =
     let one : slice_index o 0 ≡ 1 = ones 0 (omega arith) in
     let odd : slice_index p 0 % 2 ≡ 1 = ap (λ (c : ℕ). c % 2) first ∙ odd_sum (slice_index x 0) (slice_index o 0) one in
     let half : halves p ≡ point d (λ i. slice_index x i) =
-        halves_are d (λ i. 2 * slice_index x i + slice_index o i) (λ i. slice_index x i)
-            (λ i h. half_sum (slice_index x i) (slice_index o i) (ones i (omega (arith, h, three)))) in
+    halves_are d (λ i. 2 * slice_index x i + slice_index o i) (λ i. slice_index x i)
+    (λ i h. half_sum (slice_index x i) (slice_index o i) (ones i (omega (arith, h, three)))) in
     let whole : halves p ≡ x =
-        half
-            ∙ lists_same (point d (λ i. slice_index x i)) x (length-point d (λ i. slice_index x i) ∙ sym long)
-                  (λ i h. coordinate d (λ i. slice_index x i) i (omega (arith, h, length-point d (λ i. slice_index x i)))) in
+    half
+    ∙ lists_same (point d (λ i. slice_index x i)) x (length-point d (λ i. slice_index x i) ∙ sym long)
+    (λ i h. coordinate d (λ i. slice_index x i) i (omega (arith, h, length-point d (λ i. slice_index x i)))) in
     let F : ℕ → ℤ = λ k. sample_at sizes samples (point d (λ i. slice_index x i + bit_at k i)) in
     let eight : length (cube_samples sizes samples x) ≡ 8 = length-map-range_with_len F 0 (2 ^ d) ∙ ap (λ (n : ℕ). 2 ^ n) three in
     ap (is_positive iso) (odd_value sizes samples p some odd) ∙ ap (λ (y : List ℕ). is_positive iso (total (cube_samples sizes samples y))) whole
-        ∙ total_sign iso b (cube_samples sizes samples x) eight all
+    ∙ total_sign iso b (cube_samples sizes samples x) eight all
   where
     odd_sum : (a c : ℕ) → c ≡ 1 → (2 * a + c) % 2 ≡ 1
     odd_sum a c h = omega (arith, h)
@@ -207,7 +207,7 @@ corner_sign kind g iso cell k b has hk all =
       | inl even ↦ at_corner iso b g.sizes g.samples (cube_of kind g.sizes cell) o all (λ i h. (even i h, small i))
       | inr centre ↦
           at_centre iso b g.sizes g.samples (cube_of kind g.sizes cell) o (length-cube_at g.sizes (cell / cells_per_cube kind d)) all centre.0
-              centre.1
+          centre.1
     ]
 
 plain_label : (F : ℕ → Bool) (n : ℕ) (b : Bool) → ((k : ℕ) → k < n → F k ≡ b) → (powers_below F n ≡ 0) ⊎ (powers_below F n + 1 ≡ 2 ^ n)
@@ -220,4 +220,4 @@ unfolding label_of
 has_plain_label kind g iso cell has plain =
     let b = one_sign iso (cube_samples g.sizes g.samples (cube_of kind g.sizes cell)) plain in
     plain_label (λ k. positive_at (volume kind g iso None) (corner kind g.sizes cell k)) (corner_count kind (length g.sizes)) b.0
-        (λ k hk. corner_sign kind g iso cell k b.0 has hk b.1)
+    (λ k hk. corner_sign kind g iso cell k b.0 has hk b.1)

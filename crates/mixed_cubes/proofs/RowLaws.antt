@@ -47,7 +47,7 @@ steps_are n others corners long few at =
     let front : length (take (2 ^ length others) corners) ≡ 2 ^ length others = length-take-le (2 ^ length others) corners (omega (arith, e.1, long)) in
     ap (λ (m : ℕ). take m corners) e.0
     ∙ lists_same (take (2 ^ length others) corners) (face_steps n others)
-        (front ∙ sym (length-map-range_with_len (λ k. n * corner_number others k) 0 (2 ^ length others))) (λ k h.
+    (front ∙ sym (length-map-range_with_len (λ k. n * corner_number others k) 0 (2 ^ length others))) (λ k h.
     let below : k < 2 ^ length others = omega (arith, h, front) in
     get_or-take (2 ^ length others) corners k 0 below ∙ at k (omega (arith, below, e.1)) ∙ sym (step_at n others k below))
 
@@ -103,8 +103,8 @@ stands : (n : ℕ) (others : List ℕ) (row first x c : ℕ) → x < n - 1 → c
 stands n others row first x c h at is =
     let gone : n * first + (c - row * (n - 1)) ≡ x + n * sample_number others (cube_at others row) =
     ap (λ (k : ℕ). n * k + (c - row * (n - 1))) is
-        ∙ (let same : c - row * (n - 1) ≡ x = omega (arith, at) in ap (λ (k : ℕ). n * sample_number others (cube_at others row) + k) same)
-        ∙ turned (n * sample_number others (cube_at others row)) x in
+    ∙ (let same : c - row * (n - 1) ≡ x = omega (arith, at) in ap (λ (k : ℕ). n * sample_number others (cube_at others row) + k) same)
+    ∙ turned (n * sample_number others (cube_at others row)) x in
     let low : c % (n - 1) ≡ x = ap (λ (k : ℕ). k % (n - 1)) at ∙ mod-mul-add row (n - 1) x h in
     let high : c / (n - 1) ≡ row = ap (λ (k : ℕ). k / (n - 1)) at ∙ div-mul-add row (n - 1) x h in
     let there : sample_number (n ∷ others) (cube_at (n ∷ others) c) ≡ x + n * sample_number others (cube_at others row) = rw (low, high) refl in
@@ -117,10 +117,10 @@ pub next_row : (iso : ℤ) (n : ℕ) (others : List ℕ) (samples : List ℤ) (r
     → first ≡ sample_number others (cube_at others row) → steps ≡ face_steps n others →
     items ≡ map (place_of (n ∷ others)) (filter (is_mixed (record { sizes = n ∷ others; samples = samples }) iso) (numbers (row * (n - 1)))) →
     new
-        ≡ items
-              ++ map (place_in_row (n * first) (row * (n - 1)))
-                    (filter (λ c. is_mixed_from iso samples steps (n * first + (c - row * (n - 1)))) (range_with_len (row * (n - 1)) (n - 1)))
-        →
+    ≡ items
+    ++ map (place_in_row (n * first) (row * (n - 1)))
+    (filter (λ c. is_mixed_from iso samples steps (n * first + (c - row * (n - 1)))) (range_with_len (row * (n - 1)) (n - 1)))
+    →
     new ≡ map (place_of (n ∷ others)) (filter (is_mixed (record { sizes = n ∷ others; samples = samples }) iso) (numbers ((row + 1) * (n - 1))))
 next_row iso n others samples row first steps items new at are before after =
     let g : Grid = record { sizes = n ∷ others; samples = samples } in
@@ -130,8 +130,8 @@ next_row iso n others samples row first steps items new at are before after =
     filter-same (λ c. is_mixed_from iso samples steps (n * first + (c - row * (n - 1)))) (is_mixed g iso) range (λ c m.
     let x = in_range (row * (n - 1)) (n - 1) c m in
     let place : n * first + (c - row * (n - 1)) ≡ n * sample_number others (cube_at others row) + x.0 =
-        ap (λ (k : ℕ). n * k + (c - row * (n - 1))) at
-            ∙ (let same : c - row * (n - 1) ≡ x.0 = omega (arith, x.2) in ap (λ (k : ℕ). n * sample_number others (cube_at others row) + k) same) in
+    ap (λ (k : ℕ). n * k + (c - row * (n - 1))) at
+    ∙ (let same : c - row * (n - 1) ≡ x.0 = omega (arith, x.2) in ap (λ (k : ℕ). n * sample_number others (cube_at others row) + k) same) in
     ap (λ (s : List ℕ). is_mixed_from iso samples s (n * first + (c - row * (n - 1)))) are
     ∙ ap (is_mixed_from iso samples (face_steps n others)) place
     ∙ row_cube iso n others samples row x.0 x.1
@@ -143,12 +143,12 @@ next_row iso n others samples row first steps items new at are before after =
     let start : 0 + row * (n - 1) ≡ row * (n - 1) = omega arith in
     let whole : row * (n - 1) + (n - 1) ≡ (row + 1) * (n - 1) = omega arith in
     after
-        ∙ ap
-              (λ (xs : List CubePlace).
-                   xs
-                       ++ map (place_in_row (n * first) (row * (n - 1)))
-                             (filter (λ c. is_mixed_from iso samples steps (n * first + (c - row * (n - 1)))) range))
-              before
+    ∙ ap
+    (λ (xs : List CubePlace).
+    xs
+    ++ map (place_in_row (n * first) (row * (n - 1)))
+    (filter (λ c. is_mixed_from iso samples steps (n * first + (c - row * (n - 1)))) range))
+    before
     ∙ ap (λ (xs : List ℕ). map f (filter (is_mixed g iso) (numbers (row * (n - 1)))) ++ map (place_in_row (n * first) (row * (n - 1))) xs) here
     ∙ ap (λ (xs : List CubePlace). map f (filter (is_mixed g iso) (numbers (row * (n - 1)))) ++ xs) placed
     ∙ sym (map-append f (filter (is_mixed g iso) (numbers (row * (n - 1)))) (filter (is_mixed g iso) range))

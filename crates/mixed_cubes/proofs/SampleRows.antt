@@ -26,11 +26,11 @@ one_more {X} f P old items new x a n b before test at after =
     let last : map f (filter P ((a + n) ∷ [])) ≡ (if b then x ∷ [] else []) = rw (sym test) (chosen b) in
     let whole : map f (filter P (range_with_len a (n + 1))) ≡ map f (filter P (range_with_len a n)) ++ map f (filter P ((a + n) ∷ [])) =
     ap (λ (ns : List ℕ). map f (filter P ns)) (range_joined a n 1) ∙ ap (map f) (filter-append P (range_with_len a n) ((a + n) ∷ []))
-        ∙ map-append f (filter P (range_with_len a n)) (filter P ((a + n) ∷ [])) in
+    ∙ map-append f (filter P (range_with_len a n)) (filter P ((a + n) ∷ [])) in
     let grouped :
-        (old ++ map f (filter P (range_with_len a n))) ++ (if b then x ∷ [] else [])
-            ≡ old ++ (map f (filter P (range_with_len a n)) ++ (if b then x ∷ [] else [])) =
-        rw append_assoc refl in
+    (old ++ map f (filter P (range_with_len a n))) ++ (if b then x ∷ [] else [])
+    ≡ old ++ (map f (filter P (range_with_len a n)) ++ (if b then x ∷ [] else [])) =
+    rw append_assoc refl in
     after ∙ ap (λ (xs : List X). xs ++ (if b then x ∷ [] else [])) before
     ∙ grouped ∙ ap (λ (xs : List X). old ++ (map f (filter P (range_with_len a n)) ++ xs)) (sym last) ∙ ap (λ (xs : List X). old ++ xs) (sym whole)
   where
@@ -41,9 +41,9 @@ one_more {X} f P old items new x a n b before test at after =
 -- the signs of the two faces of a cube tell whether it is mixed
 pub by_signs : (iso : ℤ) (samples : List ℤ) (steps : List ℕ) (first next : ℕ) (near_above near_below far_above far_below mixed : Bool) → next ≡ first + 1
     → near_above ≡ list_any (λ s. int_le iso s) (face_samples samples steps first)
-        → near_below ≡ list_any (λ s. not (int_le iso s)) (face_samples samples steps first)
+    → near_below ≡ list_any (λ s. not (int_le iso s)) (face_samples samples steps first)
     → far_above ≡ list_any (λ s. int_le iso s) (face_samples samples steps next)
-        → far_below ≡ list_any (λ s. not (int_le iso s)) (face_samples samples steps next)
+    → far_below ≡ list_any (λ s. not (int_le iso s)) (face_samples samples steps next)
     → mixed ≡ ((near_above || far_above) && (near_below || far_below)) → mixed ≡ is_mixed_from iso samples steps first
 by_signs iso samples steps first next na nb fa fb mixed at an bn af bf is =
     let far : face_samples samples steps next ≡ face_samples samples steps (first + 1) = ap (face_samples samples steps) at in
@@ -56,5 +56,5 @@ by_signs iso samples steps first next na nb fa fb mixed at an bn af bf is =
     ∙ ap (λ (b : Bool). b || list_any (λ s. not (int_le iso s)) (face_samples samples steps (first + 1))) (sym bn)
     ∙ ap (λ (xs : List ℤ). nb || list_any (λ s. not (int_le iso s)) xs) (sym far) ∙ ap (λ (b : Bool). nb || b) (sym bf) in
     is ∙ ap (λ (b : Bool). b && (nb || fb)) (sym above)
-        ∙ ap (λ (b : Bool). list_any (λ s. int_le iso s) (face_samples samples steps first ++ face_samples samples steps (first + 1)) && b)
-              (sym below)
+    ∙ ap (λ (b : Bool). list_any (λ s. int_le iso s) (face_samples samples steps first ++ face_samples samples steps (first + 1)) && b)
+    (sym below)

@@ -19,4 +19,4 @@ abbrev pub HasPlainLabel : Kind → Grid → ℤ → ℕ → Type 0
 HasPlainLabel kind g iso cell =
     let label = label_of (volume kind g iso None) cell in
     HasDimension kind (length g.sizes) → is_mixed g iso (cell / cells_per_cube kind (length g.sizes)) ≡ false
-        → (label ≡ 0) ⊎ (label + 1 ≡ label_count kind (length g.sizes))
+    → (label ≡ 0) ⊎ (label + 1 ≡ label_count kind (length g.sizes))

@@ -1,13 +1,9 @@
 //! The mixed cubes, row by row.
 
-ghost use Rattle.std.specs.Prelude.{◌≡◌, ℕ, ◌+◌, ◌-◌, ◌*◌, ◌^◌, [], ◌∷◌, ◌++◌, ◌<◌, ◌≤◌, length, map, filter, slice_index, unsigned_abs, All, IfOk, OnOk, if◌then◌else◌};
-ghost use Rattle.std.specs.List.{range_with_len};
-ghost use Rattle.lists.specs.Orders.{numbers};
-ghost use Rattle.iso_model.specs.Splits.{cube_count as count_of};
+ghost use Rattle.std.specs.Prelude.{◌≡◌, ℕ, ◌+◌, ◌*◌, ◌^◌, [], ◌∷◌, ◌++◌, ◌<◌, ◌≤◌, length, slice_index, unsigned_abs, All, IfOk, OnOk, if◌then◌else◌};
 ghost use Rattle.iso_model.specs.Values.{IsRegularGrid, product};
-ghost use Rattle.mixed_cubes.specs.Mixed.{is_mixed};
-ghost use Rattle.mixed_cubes.specs.CubePlaces.{place_of, place_in_row};
-ghost use Rattle.mixed_cubes.specs.CubeFaces.{is_mixed_from, corner_number as corner_number_of};
+ghost use Rattle.mixed_cubes.specs.CubePlaces.{mixed_places, mixed_in_row};
+ghost use Rattle.mixed_cubes.specs.CubeFaces.{corner_number as corner_number_of};
 
 use crate::faces::{are_mixed, face_signs};
 use crate::places::{corner_number, cube_count, first_sample};
@@ -27,7 +23,7 @@ pub struct CubePlace {
 pub fn mixed_cubes(alloc: Global, grid: &Grid, iso: i64) -> Result<Vec<CubePlace>, Memory>
     requires regular { IsRegularGrid grid.now }
     requires iso { unsigned_abs iso ≤ 2 ^ 40 }
-    ensures { IfOk result (λ cubes. cubes.items ≡ map (place_of grid.now.sizes) (filter (is_mixed grid.now iso) (numbers (count_of grid.now.sizes)))) }
+    ensures { IfOk result (λ cubes. cubes.items ≡ mixed_places grid.now.sizes grid.now.samples iso) }
 {
     let others = &grid.sizes[1..grid.dims as usize];
     mixed_rows(alloc, grid.sizes[0], others, grid.samples.as_slice(), iso)
@@ -45,7 +41,7 @@ fn mixed_rows(
     requires sized { All (λ n. 1 ≤ n) (size ∷ others.now) }
     requires few { product (size ∷ others.now) ≤ 2 ^ 27 }
     requires there { length samples.now ≡ product (size ∷ others.now) }
-    ensures { IfOk result (λ cubes. cubes.items ≡ map (place_of (size ∷ others.now)) (filter (is_mixed (record { sizes = size ∷ others.now; samples = samples.now }) iso) (numbers (count_of (size ∷ others.now))))) }
+    ensures { IfOk result (λ cubes. cubes.items ≡ mixed_places (size ∷ others.now) samples.now iso) }
 {
     let mut cubes = Vec::new(alloc);
     let span = size - 1;
@@ -87,7 +83,7 @@ fn add_row(
     requires inside { (k : ℕ) → k < length steps.now → first + span + slice_index steps.now k < length samples.now }
     requires few { length samples.now ≤ 2 ^ 27 }
     requires numbers { number + span ≤ 2 ^ 27 }
-    ensures { OnOk result (cubes.new.items ≡ cubes.old.items ++ map (place_in_row first number) (filter (λ c. is_mixed_from iso samples.now steps.now (first + (c - number))) (range_with_len number span))) }
+    ensures { OnOk result (cubes.new.items ≡ cubes.old.items ++ mixed_in_row iso samples.now steps.now first number span) }
 {
     let mut near = face_signs(samples, steps, first, iso);
     for place in 0..span {

@@ -1,5 +1,6 @@
 -- Triangles at an edge, and paths through all of them. A face at edge e is told by its other edge.
-use Rattle.std.specs.Prelude.{◌≡◌, ◌≢◌, ◌<◌, ◌≤◌, ◌⊎◌, ℕ, Bool, true, false, not, ◌&&◌, ◌==◌, List, [], length, find, slice_index, slice_index_or, All, Option, Some}
+use Rattle.std.specs.Prelude.{◌≡◌, ◌≢◌, ◌<◌, ◌≤◌, ◌⊎◌, ℕ, Bool, true, false, not, ◌&&◌, ◌==◌, List, [], length, find, slice_index, slice_index_or}
+use Rattle.std.specs.Prelude.{All, Option, Some}
 use Rattle.std.specs.Prelude.{None, if◌then◌else◌}
 use Rattle.std.specs.List.{list_any}
 use Rattle.iso_model.specs.declared.Kind.{Kind}

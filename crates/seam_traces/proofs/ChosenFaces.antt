@@ -1,8 +1,7 @@
 -- Choices of members of a list, and the faces that lie in a facet.
-use Rattle.std.specs.Prelude.{◌≡◌, ℕ, zero, suc, ◌+◌, ◌-◌, ◌<◌, ◌≤◌, bit_and, Bool, true, false, ◌&&◌, List, [], ◌∷◌, ◌++◌, map, filter, length, All}
+use Rattle.std.specs.Prelude.{◌≡◌, ℕ, zero, suc, ◌-◌, ◌<◌, ◌≤◌, bit_and, Bool, true, false, ◌&&◌, List, [], ◌∷◌, ◌++◌, map, filter, length, All}
 use Rattle.std.specs.Prelude.{slice_index_or, if◌then◌else◌}
 use Rattle.std.specs.List.{AllAdjacentBelow}
-use Rattle.std.specs.List.Sorted.{IsStrictlyIncreasing}
 use Rattle.std.proofs.Common.{refl, sym, ap, ◌∙◌, subst, arith, inl, inr}
 use Rattle.std.proofs.lemmas.Bool.{and_parts, and_from}
 use Rattle.std.proofs.lemmas.List.{map-append}
@@ -10,9 +9,8 @@ use Rattle.lists.specs.Orders.{choices}
 use Rattle.face_tallies.specs.Tallies.{IsFace}
 use Rattle.lists.specs.Bits.{is_set, set_number}
 use Rattle.lists.specs.Members.{In, Climbs, Ascends}
-use Rattle.lists.proofs.Contained.{any_default}
 use Rattle.lists.proofs.MemberLaws.{In-map, from_In-map, In-append_left, In-append_right, from_In-append, map-map, In_of_has, has_of_In}
-use Rattle.lists.proofs.Ascending.{Climbs-filter, ascends_of, first_same, rest_has}
+use Rattle.lists.proofs.Ascending.{Climbs-filter, ascends_of}
 use Rattle.lists.proofs.Bits.{bit_of_set, same_sets, set_and, part_of_set, same_from_number}
 use Rattle.lists.proofs.Tests.{same_tests, next_place}
 
@@ -38,10 +36,10 @@ climb_of_steps key [] a = tt
 climb_of_steps key (x ∷ []) a = (λ y i. absurd i, tt)
 climb_of_steps key (x ∷ y ∷ ys) a =
     let more =
-        climb_of_steps key (y ∷ ys)
-            (λ k d h.
-                 subst (λ (n : ℕ). key (slice_index_or (y ∷ ys) k d) < key (slice_index_or (x ∷ y ∷ ys) n d)) (sym (next_place k))
-                     (a (suc k) d (omega (arith, h)))) in
+    climb_of_steps key (y ∷ ys)
+    (λ k d h.
+    subst (λ (n : ℕ). key (slice_index_or (y ∷ ys) k d) < key (slice_index_or (x ∷ y ∷ ys) n d)) (sym (next_place k))
+    (a (suc k) d (omega (arith, h)))) in
     (below_all key x y ys (a 0 x (omega arith)) more, more)
 
 -- ---- choices
@@ -68,7 +66,7 @@ part_is_choice {X} p (x ∷ xs) = by (p x) (part_is_choice p xs)
         → In (if b then x ∷ filter p xs else filter p xs) (choices (length (if b then x ∷ filter p xs else filter p xs)) (x ∷ xs))
     by true i =
         In-append_left (map (λ r. x ∷ r) (choices (length (filter p xs)) xs)) (choices (suc (length (filter p xs))) xs) (x ∷ filter p xs)
-            (In-map (λ r. x ∷ r) (choices (length (filter p xs)) xs) (filter p xs) i)
+        (In-map (λ r. x ∷ r) (choices (length (filter p xs)) xs) (filter p xs) i)
     by false i = skip x (length (filter p xs)) xs (filter p xs) i
 
 -- a choice has as many members, all of the list, in its order
@@ -114,11 +112,11 @@ pub face_in_facet : (d : ℕ) (edges face : List ℕ) → Ascends edges → IsFa
 face_in_facet d edges face a f within =
     let part = filter (is_set (set_number face)) edges in
     let same : face ≡ part =
-        same_from_number face part (face_ascends d face f) (Climbs-filter (λ x. x) (is_set (set_number face)) edges a)
-            (sym within ∙ part_of_set edges a (set_number face)) in
+    same_from_number face part (face_ascends d face f) (Climbs-filter (λ x. x) (is_set (set_number face)) edges a)
+    (sym within ∙ part_of_set edges a (set_number face)) in
     let wide : length part ≡ d - 1 = let w = f.wide in let l = ap length same in omega arith in
     subst (λ (l : List ℕ). In l (choices (d - 1) edges)) (sym same)
-        (subst (λ (n : ℕ). In part (choices n edges)) wide (part_is_choice (is_set (set_number face)) edges))
+    (subst (λ (n : ℕ). In part (choices n edges)) wide (part_is_choice (is_set (set_number face)) edges))
 
 pub choice_within : (n : ℕ) (edges c : List ℕ) → Ascends edges → In c (choices n edges) → bit_and (set_number c) (set_number edges) ≡ set_number c
 choice_within n edges c a i =

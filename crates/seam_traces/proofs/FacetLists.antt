@@ -1,20 +1,18 @@
 -- The lists of edges of facets, and the places of faces on both sides of a seam.
-use Rattle.std.specs.Prelude.{◌≡◌, ℕ, zero, suc, ◌+◌, ◌-◌, ◌*◌, ◌%◌, ◌^◌, ◌<◌, ◌≤◌, Bool, true, false, List, ◌∷◌, map, filter, length, All, nat_le}
+use Rattle.std.specs.Prelude.{◌≡◌, ℕ, zero, suc, ◌+◌, ◌-◌, ◌<◌, ◌≤◌, Bool, true, false, List, ◌∷◌, map, filter, length, All, nat_le}
 use Rattle.std.specs.Prelude.{if◌then◌else◌}
 use Rattle.std.specs.List.{range_with_len}
 use Rattle.std.proofs.Common.{refl, ap, ◌∙◌, arith, inl, inr}
-use Rattle.std.proofs.Math.Pow.{pow-lt}
 use Rattle.std.proofs.lemmas.Bool.{leb-true}
 use Rattle.iso_model.specs.declared.Kind.{Kind}
 use Rattle.lists.specs.Orders.{numbers, choices}
-use Rattle.iso_model.specs.Cells.{HasDimension, corner_count, edge_count, edge_in_facet, facet_edges}
+use Rattle.iso_model.specs.Cells.{HasDimension, edge_count, edge_in_facet, facet_edges}
 use Rattle.iso_model.specs.Seams.{Seam, seams}
 use Rattle.cell_lattice.specs.Agreement.{agree_on}
 use Rattle.iso_model.specs.Dimensions.{IsDimension, of_each_cell}
 use Rattle.seam_traces.specs.Traces.{places}
 use Rattle.lists.specs.Bits.{is_set, set_number}
-use Rattle.lists.specs.Members.{In, Ascends}
-use Rattle.lists.proofs.Ascending.{Climbs-filter, Ascends-range}
+use Rattle.lists.specs.Members.{In}
 use Rattle.lists.proofs.MemberLaws.{from_filter}
 
 pub range_in : (a n y : ℕ) → In y (range_with_len a n) → (a ≤ y) × (y < a + n)
@@ -49,7 +47,7 @@ pub seam_places : (kind : Kind) (d : ℕ) → IsDimension d → HasDimension kin
 seam_places kind d is has =
     agree_on (λ (s : Seam). face_places kind d s.facet) (λ (s : Seam). face_places kind d s.other) (seams kind d)
     (of_each_cell (λ k n. map (λ (s : Seam). face_places k n s.facet) (seams k n) ≡ map (λ (s : Seam). face_places k n s.other) (seams k n)) refl refl
-         refl refl refl refl refl kind d is has)
+    refl refl refl refl refl kind d is has)
 
 -- ---- what the calls of a cell tell
 

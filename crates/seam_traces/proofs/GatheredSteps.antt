@@ -1,6 +1,5 @@
 -- One more member of a list: what loops over lists keep.
-use Rattle.std.specs.Prelude.{◌≡◌, ℕ, pos, zero, suc, ◌+◌, ◌*◌, ◌^◌, ◌<◌, ◌≤◌, Bool, true, false, List, [], ◌∷◌, ◌++◌, map, filter, length, if◌then◌else◌}
-use Rattle.std.specs.List.{range_with_len}
+use Rattle.std.specs.Prelude.{◌≡◌, ℕ, pos, suc, ◌+◌, ◌*◌, ◌^◌, ◌<◌, ◌≤◌, Bool, true, false, List, [], ◌∷◌, ◌++◌, map, filter, length, if◌then◌else◌}
 use Rattle.std.proofs.Common.{get_or, take, drop, refl, sym, ap, ◌∙◌, subst, arith}
 use Rattle.std.proofs.lemmas.List.{take_more, take-append-drop, map-append, append-nil, length-take-le}
 use Rattle.std.proofs.lemmas.List.Elements.{filter-append}
@@ -20,9 +19,9 @@ filter-push : {X : Type 0} (p : X → Bool) (xs : List X) (x : X) → filter p (
 filter-push p [] x = refl
 filter-push {X} p (y ∷ xs) x = elim (p y) as
     (λ b. (if b then y ∷ filter p (xs ++ x ∷ []) else filter p (xs ++ x ∷ [])) ≡ (if b then y ∷ filter p xs else filter p xs) ++ (if p x then x ∷ [] else [])) [
-  | true ↦ ap (λ l. y ∷ l) (filter-push p xs x)
-  | false ↦ filter-push p xs x
-]
+      | true ↦ ap (λ l. y ∷ l) (filter-push p xs x)
+      | false ↦ filter-push p xs x
+    ]
 
 -- ---- members of a set
 
@@ -41,7 +40,7 @@ bits-push [] false = refl
 bits-push (c ∷ bs) true =
     let r = bits-push bs true in
     let p : 2 ^ suc (length bs) ≡ 2 * 2 ^ length bs =
-        let q = pow-add 2 1 (length bs) in let e : 1 + length bs ≡ suc (length bs) = omega arith in ap (λ (n : ℕ). 2 ^ n) (sym e) ∙ q in
+    let q = pow-add 2 1 (length bs) in let e : 1 + length bs ≡ suc (length bs) = omega arith in ap (λ (n : ℕ). 2 ^ n) (sym e) ∙ q in
     omega (arith, r, p)
 bits-push (c ∷ bs) false = let r = bits-push bs false in omega (arith, r)
 
@@ -52,7 +51,7 @@ places_more members i set d b inside e =
     ∙ ap number_of_bits (map-append (is_set set) (take i members) (get_or members i d ∷ []))
     ∙ bits-push (map (is_set set) (take i members)) (is_set set (get_or members i d))
     ∙ ap (λ n. places (take i members) set + (if is_set set (get_or members i d) then 2 ^ n else 0))
-        (length_map (is_set set) (take i members) ∙ length-take-le i members (omega arith))
+    (length_map (is_set set) (take i members) ∙ length-take-le i members (omega arith))
     ∙ ap (λ (t : Bool). places (take i members) set + (if t then 2 ^ i else 0)) (sym e)
 
 -- ---- tallies
@@ -104,9 +103,9 @@ next_kept same edges kept ts i next d z inside within few so_far h =
     ∙ ap (λ l. l ++ tallies_in edges (drop (i + 1) ts)) (tallies_more edges ts i d true inside within) in
     let whole : kept ≡ (pre ++ y ∷ []) ++ rest =
     h ∙ ap (tallies_across same) parts
-        ∙ map-append (tally_across same) (tallies_in edges (take i ts) ++ placed edges (get_or ts i d) ∷ []) (tallies_in edges (drop (i + 1) ts))
+    ∙ map-append (tally_across same) (tallies_in edges (take i ts) ++ placed edges (get_or ts i d) ∷ []) (tallies_in edges (drop (i + 1) ts))
     ∙ ap (λ l. l ++ rest) (map-append (tally_across same) (tallies_in edges (take i ts)) (placed edges (get_or ts i d) ∷ []))
-        ∙ ap (λ l. (l ++ y ∷ []) ++ rest) (sym so_far) in
+    ∙ ap (λ l. (l ++ y ∷ []) ++ rest) (sym so_far) in
     let wide : length pre ≡ next = length-take-le next kept few in
     let less : length pre < length kept = subst (λ (l : List FaceTally). length pre < length l) (sym whole) (behind_length pre y rest) in
     let at : get_or kept (length pre) z ≡ y = ap (λ l. get_or l (length pre) z) whole ∙ behind pre y rest z in
@@ -115,21 +114,21 @@ next_kept same edges kept ts i next d z inside within few so_far h =
 pub none_left : (same : Bool) (edges : List ℕ) (kept ts : List FaceTally) (i next : ℕ) (d : FaceTally) → i < length ts
     → true ≡ is_within edges (get_or ts i d).edges
     → next ≤ length kept → take next kept ≡ tallies_across same (tallies_in edges (take i ts)) → next ≡ length kept
-        → kept ≡ tallies_across same (tallies_in edges ts) → ⊥
+    → kept ≡ tallies_across same (tallies_in edges ts) → ⊥
 none_left same edges kept ts i next d inside within few so_far e h =
     let less = (next_kept same edges kept ts i next d d inside within few so_far h).0 in omega arith
 
 pub other_kept : (same : Bool) (edges : List ℕ) (kept ts : List FaceTally) (i next : ℕ) (d z : FaceTally) → i < length ts
     → true ≡ is_within edges (get_or ts i d).edges
     → next ≤ length kept → take next kept ≡ tallies_across same (tallies_in edges (take i ts))
-        → (get_or kept next z ≡ tally_across same (placed edges (get_or ts i d)) → ⊥)
+    → (get_or kept next z ≡ tally_across same (placed edges (get_or ts i d)) → ⊥)
     → kept ≡ tallies_across same (tallies_in edges ts) → ⊥
 other_kept same edges kept ts i next d z inside within few so_far differs h = differs (next_kept same edges kept ts i next d z inside within few so_far h).1
 
 pub kept_more : (same : Bool) (edges : List ℕ) (kept ts : List FaceTally) (i next : ℕ) (d z : FaceTally) → i < length ts
     → true ≡ is_within edges (get_or ts i d).edges
     → next < length kept → take next kept ≡ tallies_across same (tallies_in edges (take i ts))
-        → get_or kept next z ≡ tally_across same (placed edges (get_or ts i d))
+    → get_or kept next z ≡ tally_across same (placed edges (get_or ts i d))
     → take (next + 1) kept ≡ tallies_across same (tallies_in edges (take (i + 1) ts))
 kept_more same edges kept ts i next d z inside within less so_far e =
     take_more kept next z less

@@ -22,7 +22,7 @@ pub kept_at : (facet : Facet) (p : ℕ) (v : Vec FaceTally Global) → p < lengt
     → tallies_at facet p ≡ v.items
 kept_at facet p v inside e =
     any_default (map (λ (k : Vec FaceTally Global). k.items) facet.traces.items) p [] v.items
-        (subst (λ n. p < n) (sym (length-map (λ (k : Vec FaceTally Global). k.items) facet.traces.items)) inside)
+    (subst (λ n. p < n) (sym (length-map (λ (k : Vec FaceTally Global). k.items) facet.traces.items)) inside)
     ∙ get_or-map (λ (k : Vec FaceTally Global). k.items) facet.traces.items p v ∙ ap (λ (k : Vec FaceTally Global). k.items) (sym e)
   where
     length-map : {X Y : Type 0} (f : X → Y) (xs : List X) → length (map f xs) ≡ length xs
@@ -52,12 +52,12 @@ takes_first label tallies old p s t sound less is read never told =
       traces = length-set old.traces.items p t;
       here =
           subst
-              (λ q.
-                   TakesTallies (tallies_on old tallies) (seen_at old q) (tallies_at old q) (get_or (set old.seen.items p Alike) q Never)
-                       (get_or (lists (set old.traces.items p t)) q []))
-              is
+          (λ q.
+          TakesTallies (tallies_on old tallies) (seen_at old q) (tallies_at old q) (get_or (set old.seen.items p Alike) q Never)
+          (get_or (lists (set old.traces.items p t)) q []))
+          is
           (subst (λ b. TakesTallies (tallies_on old tallies) b (tallies_at old p) (get_or (set old.seen.items p Alike) p Never)
-              (get_or (lists (set old.traces.items p t)) p [])) (sym (seen_is old p s in_seen read ∙ never)) (
+          (get_or (lists (set old.traces.items p t)) p [])) (sym (seen_is old p s in_seen read ∙ never)) (
             get_or-set_same old.seen.items p Alike Never in_seen,
             ap (λ l. get_or l p []) (map-set (λ (k : Vec FaceTally Global). k.items) old.traces.items p t)
                 ∙ get_or-set_same (lists old.traces.items) p t.items [] wide ∙ told,
@@ -88,12 +88,12 @@ takes_other label tallies old p s sound less is read alike differs =
       traces = refl;
       here =
           subst
-              (λ q.
-                   TakesTallies (tallies_on old tallies) (seen_at old q) (tallies_at old q) (get_or (set old.seen.items p Unlike) q Never)
-                       (tallies_at old q))
-              is
+          (λ q.
+          TakesTallies (tallies_on old tallies) (seen_at old q) (tallies_at old q) (get_or (set old.seen.items p Unlike) q Never)
+          (tallies_at old q))
+          is
           (subst (λ b. TakesTallies (tallies_on old tallies) b (tallies_at old p) (get_or (set old.seen.items p Unlike) p Never) (tallies_at old p))
-              (sym (seen_is old p s in_seen read ∙ alike))
+          (sym (seen_is old p s in_seen read ∙ alike))
           (refl, inr (get_or-set_same old.seen.items p Unlike Never in_seen, differs)));
       others = λ q other. (get_or-set_other old.seen.items p q Unlike Never (λ e. other (e ∙ is)), refl);
     }

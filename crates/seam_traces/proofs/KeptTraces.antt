@@ -1,6 +1,6 @@
 -- Kept tallies correspond exactly where the traces of which they tell correspond.
 use Rattle.std.specs.Prelude.{◌≡◌, ℕ, suc, ℤ, ◌-◌, ◌<◌, ◌≤◌, Bool, bit_and, List, [], ◌∷◌, map, All}
-use Rattle.std.proofs.Common.{refl, sym, ap, ◌∙◌, subst, arith, inl, inr}
+use Rattle.std.proofs.Common.{sym, ap, ◌∙◌, subst, arith, inl, inr}
 use Rattle.iso_model.specs.declared.Kind.{Kind}
 use Rattle.lists.specs.Orders.{choices}
 use Rattle.iso_model.specs.Cells.{HasDimension, facet_edges}
@@ -57,12 +57,12 @@ tallies_count d ws ts are t i = let e = each_in d ws ts are.each t i in let c = 
 kept_climb : (kind : Kind) (d f : ℕ) (ws : List (List ℕ)) (kept : List FaceTally) → TellTrace kind d f ws kept → Climbs key kept
 kept_climb kind d f ws kept tell =
     subst (λ (l : List FaceTally). Climbs key l) (sym tell.kept_are)
-        (tallies_in_climb (facet_edges kind d f) (facet_edges_ascend kind d f) tell.tallies (tallies_climb d ws tell.tallies tell.are_tallies))
+    (tallies_in_climb (facet_edges kind d f) (facet_edges_ascend kind d f) tell.tallies (tallies_climb d ws tell.tallies tell.are_tallies))
 
 kept_count : (kind : Kind) (d f : ℕ) (ws : List (List ℕ)) (kept : List FaceTally) → TellTrace kind d f ws kept → Counts kept
 kept_count kind d f ws kept tell =
     subst (λ (l : List FaceTally). Counts l) (sym tell.kept_are)
-        (tallies_in_count (facet_edges kind d f) tell.tallies (tallies_count d ws tell.tallies tell.are_tallies))
+    (tallies_in_count (facet_edges kind d f) tell.tallies (tallies_count d ws tell.tallies tell.are_tallies))
 
 -- each kept tally has the places of some face in the facet
 kept_places : (kind : Kind) (d f : ℕ) (ws : List (List ℕ)) (kept : List FaceTally) → TellTrace kind d f ws kept → (z : FaceTally) → In z kept
@@ -72,7 +72,7 @@ kept_places kind d f ws kept tell z i =
     let r = in_tallies edges tell.tallies z (subst (λ (l : List FaceTally). In z l) tell.kept_are i) in
     let t = each_in d ws tell.tallies tell.are_tallies.each r.0 r.1 in
     let within : bit_and (set_number t.face) (set_number edges) ≡ set_number t.face =
-        subst (λ (n : ℕ). bit_and n (set_number edges) ≡ n) t.set (within_is edges r.0.edges r.2) in
+    subst (λ (n : ℕ). bit_and n (set_number edges) ≡ n) t.set (within_is edges r.0.edges r.2) in
     let c : In t.face (choices (d - 1) edges) = face_in_facet d edges t.face (facet_edges_ascend kind d f) t.is_face within in
     let e : z.edges ≡ places edges (set_number t.face) = ap key r.3 ∙ ap (places edges) t.set in
     subst (λ (n : ℕ). In n (face_places kind d f)) (sym e) (In-map (λ face. places edges (set_number face)) (choices (d - 1) edges) t.face c)
@@ -136,7 +136,7 @@ tallies_correspond kind d f g is has same ws vs here there e k l h =
       | inr none ↦ elim (find_set here set) [
         | inl r ↦
             inside set
-                (subst (λ (ns : List ℕ). In set ns) e (subst (λ (n : ℕ). In n (face_places kind d f)) r.2 (kept_places kind d f ws here k r.0 r.1)))
+            (subst (λ (ns : List ℕ). In set ns) e (subst (λ (n : ℕ). In n (face_places kind d f)) r.2 (kept_places kind d f ws here k r.0 r.1)))
         | inr nor ↦ found_none there set none ∙ zero_across same ∙ ap (counts_across same) (sym (found_none here set nor)) ∙ sym (found_across same here set)
       ]
     ]

@@ -2,10 +2,8 @@
 use Rattle.std.specs.Prelude.{◌≡◌, ◌⊎◌, ℕ, ℤ, pos, ◌<◌, bit_and, Bool, true, false, ◌==◌, List, [], ◌∷◌, map, filter, if◌then◌else◌}
 use Rattle.std.proofs.Common.{refl, sym, ap, ◌∙◌, subst, arith, inl, inr}
 use Rattle.std.proofs.lemmas.Bool.{false≢true, cases_eq, cases_lt, eq-eqb, ne_eqb, eqb-true}
-use Rattle.std.proofs.lemmas.Int.{ints}
 use Rattle.iso_model.specs.Turns.{signed}
 use Rattle.iso_model.specs.Faces.{face_count, face_sum}
-use Rattle.mesh_laws.proofs.SignedFaces.{face_count_is, face_sum_is}
 use Rattle.face_tallies.specs.declared.faces.FaceTally.{FaceTally}
 use Rattle.face_tallies.specs.Tallies.{IsFace, IsTallyOf}
 use Rattle.seam_traces.specs.Traces.{places}
@@ -91,7 +89,7 @@ same_tallies (x ∷ xs) (y ∷ ys) a b s t h = elim (cases_eq x.edges y.edges) [
     | inl less ↦ counted x (s x (inl refl)) (sym (found_here x xs x.edges refl) ∙ h x.edges ∙ above_none (y ∷ ys) x.edges (above y ys x.edges less b))
     | inr more ↦
         counted y (t y (inl refl))
-            (sym (found_here y ys y.edges refl) ∙ sym (h y.edges) ∙ above_none (x ∷ xs) y.edges (above x xs y.edges (omega arith) a))
+        (sym (found_here y ys y.edges refl) ∙ sym (h y.edges) ∙ above_none (x ∷ xs) y.edges (above x xs y.edges (omega arith) a))
   ])
 ]
   where
@@ -131,7 +129,7 @@ placed_climb edges a (t ∷ ts) within c = (
       let r = from_In-map (placed edges) ts y i in
       subst (λ (z : FaceTally). places edges t.edges < z.edges) (sym r.2)
       (places_ascend edges a t.edges r.0.edges (within_is edges t.edges (within t (inl refl))) (within_is edges r.0.edges (within r.0 (inr r.1)))
-           (c.0 r.0 r.1)),
+      (c.0 r.0 r.1)),
   placed_climb edges a ts (λ u i. within u (inr i)) c.1,
 )
 
@@ -159,8 +157,8 @@ found_in edges a set in_set (t ∷ ts) = by (is_within edges t.edges) refl (case
     by true w (inl e) behind = found_here (placed edges t) (tallies_in edges ts) (places edges set) (ap (places edges) e) ∙ sym (found_here t ts set e)
     by true w (inr e) behind =
         found_later (placed edges t) (tallies_in edges ts) (places edges set)
-            (λ f. e (places_apart edges a t.edges set (within_is edges t.edges w) in_set f))
-            ∙ behind ∙ sym (found_later t ts set e)
+        (λ f. e (places_apart edges a t.edges set (within_is edges t.edges w) in_set f))
+        ∙ behind ∙ sym (found_later t ts set e)
     by false w (inl e) behind = absurd (false≢true (sym w ∙ ap (is_within edges) e ∙ eq-eqb (bit_and set (set_number edges)) set in_set))
     by false w (inr e) behind = behind ∙ sym (found_later t ts set e)
 
@@ -168,11 +166,10 @@ found_in edges a set in_set (t ∷ ts) = by (is_within edges t.edges) refl (case
 
 pub across_climb : (same : Bool) (ts : List FaceTally) → Climbs key ts → Climbs key (tallies_across same ts)
 across_climb same [] c = tt
-across_climb same (t ∷ ts) c =
-    (
-      λ y i. let r = from_In-map (tally_across same) ts y i in subst (λ (z : FaceTally). t.edges < z.edges) (sym r.2) (c.0 r.0 r.1),
-      across_climb same ts c.1
-    )
+across_climb same (t ∷ ts) c = (
+  λ y i. let r = from_In-map (tally_across same) ts y i in subst (λ (z : FaceTally). t.edges < z.edges) (sym r.2) (c.0 r.0 r.1),
+  across_climb same ts c.1,
+)
 
 pub across_count : (same : Bool) (ts : List FaceTally) → Counts ts → Counts (tallies_across same ts)
 across_count same ts c z i = let r = from_In-map (tally_across same) ts z i in subst (λ (t : FaceTally). 0 < t.count) (sym r.2) (c r.0 r.1)
@@ -189,9 +186,9 @@ pub found_across : (same : Bool) (ts : List FaceTally) (set : ℕ) → found (ta
 found_across same [] set = zero_across same
 found_across same (t ∷ ts) set = elim (t.edges == set) as
     (λ b. (if b then counts_across same (counts_of t) else found (tallies_across same ts) set) ≡ counts_across same (if b then counts_of t else found ts set)) [
-  | true ↦ refl
-  | false ↦ found_across same ts set
-]
+      | true ↦ refl
+      | false ↦ found_across same ts set
+    ]
 
 -- ---- the tallies of tuples
 

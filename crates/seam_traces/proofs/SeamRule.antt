@@ -1,5 +1,5 @@
 -- The rule of seams at a label, by patterns and traces.
-use Rattle.std.specs.Prelude.{◌≡◌, ℕ, ℤ, pos, negsuc, ◌+ℤ◌, zero, suc, ◌+◌, ◌-◌, ◌*◌, ◌<◌, Bool, true, false, not, ◌&&◌, ◌||◌, ◌==◌, List, [], ◌∷◌}
+use Rattle.std.specs.Prelude.{◌≡◌, ℕ, ℤ, pos, ◌+ℤ◌, zero, suc, ◌+◌, ◌-◌, ◌*◌, ◌<◌, Bool, true, false, not, ◌&&◌, ◌==◌, List, [], ◌∷◌}
 use Rattle.std.specs.Prelude.{map, if◌then◌else◌}
 use Rattle.std.specs.List.{list_all, range_with_len}
 use Rattle.std.proofs.Common.{refl, sym, ap, ◌∙◌, subst, arith}
@@ -7,7 +7,7 @@ use Rattle.std.proofs.lemmas.Bool.{false≢true, eq-eqb, eqb-true, and_parts, an
 use Rattle.std.proofs.lemmas.Int.{ints}
 use Rattle.iso_model.specs.declared.Kind.{Kind}
 use Rattle.lists.specs.Orders.{choices}
-use Rattle.iso_model.specs.Turns.{signed, same_int}
+use Rattle.iso_model.specs.Turns.{signed}
 use Rattle.iso_model.specs.Cells.{facet_corners, facet_edges, label_count}
 use Rattle.iso_model.specs.Seams.{Seam, corner_across, edge_across}
 use Rattle.iso_model.specs.CellLaws.{MeetsCorners, KeepsEdges}
@@ -51,7 +51,7 @@ patterns_same p q across [] h = refl
 patterns_same p q across (k ∷ ks) h =
     let r = bits_apart (p k) (q (across k)) (number_of_bits (map p ks)) (number_of_bits (map q (map across ks))) h in
     and_from (if p k then q (across k) else not (q (across k))) (list_all (λ k. if p k then q (across k) else not (q (across k))) ks)
-        (same_if (p k) (q (across k)) r.0) (patterns_same p q across ks r.1)
+    (same_if (p k) (q (across k)) r.0) (patterns_same p q across ks r.1)
 
 -- labels agree on the corners that meet across a seam exactly where their patterns are equal
 meet_patterns : (kind : Kind) (d : ℕ) (s : Seam) (here there : ℕ) → MeetsCorners kind d s → labels_meet kind d s here there ≡ true
@@ -63,7 +63,7 @@ patterns_meet : (kind : Kind) (d : ℕ) (s : Seam) (here there : ℕ) → MeetsC
     → labels_meet kind d s here there ≡ true
 patterns_meet kind d s here there m h =
     patterns_same (is_set here) (is_set there) (corner_across kind d s) (facet_corners kind d s.facet)
-        (h ∙ sym (ap (λ ks. number_of_bits (map (is_set there) ks)) m))
+    (h ∙ sym (ap (λ ks. number_of_bits (map (is_set there) ks)) m))
 
 -- ---- traces
 
@@ -108,7 +108,7 @@ entries_traces : (kind : Kind) (d : ℕ) (s : Seam) (here there : List (List ℕ
 entries_traces kind d s here there keeps h =
     sym (other_trace kind d s there keeps)
     ∙ sym (all_to_map (face_meets kind d s here there) (λ face. counts_across s.same_parity (face_counts here face))
-        (λ face. face_counts there (map (edge_across kind d s) face)) each
+    (λ face. face_counts there (map (edge_across kind d s) face)) each
     (choices (d - 1) (facet_edges kind d s.facet)) h)
     ∙ sym (map-map (face_counts here) (counts_across s.same_parity) (choices (d - 1) (facet_edges kind d s.facet)))
   where
@@ -125,10 +125,10 @@ traces_entries : (kind : Kind) (d : ℕ) (s : Seam) (here there : List (List ℕ
     → trace kind d s.other there ≡ trace_across s.same_parity (trace kind d s.facet here) → entries_meet kind d s here there ≡ true
 traces_entries kind d s here there keeps h =
     map_to_all (face_meets kind d s here there) (λ face. counts_across s.same_parity (face_counts here face))
-        (λ face. face_counts there (map (edge_across kind d s) face)) each
+    (λ face. face_counts there (map (edge_across kind d s) face)) each
     (choices (d - 1) (facet_edges kind d s.facet))
     (sym (map-map (face_counts here) (counts_across s.same_parity) (choices (d - 1) (facet_edges kind d s.facet))) ∙ sym h
-         ∙ sym (other_trace kind d s there keeps))
+    ∙ sym (other_trace kind d s there keeps))
   where
     each : (face : List ℕ) → counts_across s.same_parity (face_counts here face) ≡ face_counts there (map (edge_across kind d s) face)
         → face_meets kind d s here there face ≡ true
@@ -153,7 +153,7 @@ meets_traces : (t : Table) (s : Seam) (here there : ℕ) → MeetsCorners t.kind
 meets_traces t s here there m k h e =
     entries_traces t.kind t.dimension s (entry_of t here) (entry_of t there) k
     (not_or (labels_meet t.kind t.dimension s here there) (entries_meet t.kind t.dimension s (entry_of t here) (entry_of t there)) h
-         (patterns_meet t.kind t.dimension s here there m e))
+    (patterns_meet t.kind t.dimension s here there m e))
 
 traces_meets : (t : Table) (s : Seam) (here there : ℕ) → MeetsCorners t.kind t.dimension s → KeepsEdges t.kind t.dimension s
     → (pattern t.kind t.dimension s.facet here ≡ pattern t.kind t.dimension s.other there
@@ -194,12 +194,12 @@ below_each p a (suc n) f =
 -- a label keeps the rule at a seam exactly where it corresponds from each end of the seam to the other
 pub kept_corresponds : (t : Table) (label : ℕ) (s : Seam) → MeetsCorners t.kind t.dimension s → KeepsEdges t.kind t.dimension s → keeps_seam t label s ≡ true
     → Corresponds t (label_count t.kind t.dimension) s.facet s.other s.same_parity label
-        × Corresponds t (label_count t.kind t.dimension) s.other s.facet s.same_parity label
+    × Corresponds t (label_count t.kind t.dimension) s.other s.facet s.same_parity label
 kept_corresponds t label s corners edges h = (
   λ m less e. meets_traces t s label m corners edges (both m less).0 (sym e),
   λ m less e.
       crossed s.same_parity (trace t.kind t.dimension s.other (entry_of t label)) (trace t.kind t.dimension s.facet (entry_of t m))
-          (meets_traces t s m label corners edges (both m less).1 e),
+      (meets_traces t s m label corners edges (both m less).1 e),
 )
   where
     both : (m : ℕ) → m < label_count t.kind t.dimension → (meets_across t s label m ≡ true) × (meets_across t s m label ≡ true)
@@ -210,7 +210,7 @@ kept_corresponds t label s corners edges h = (
 
 pub corresponds_kept : (t : Table) (label : ℕ) (s : Seam) → MeetsCorners t.kind t.dimension s → KeepsEdges t.kind t.dimension s
     → Corresponds t (label_count t.kind t.dimension) s.facet s.other s.same_parity label
-        → Corresponds t (label_count t.kind t.dimension) s.other s.facet s.same_parity label
+    → Corresponds t (label_count t.kind t.dimension) s.other s.facet s.same_parity label
     → keeps_seam t label s ≡ true
 corresponds_kept t label s corners edges one two =
     below_each (λ m. meets_across t s label m && meets_across t s m label) 0 (label_count t.kind t.dimension) (λ m less.
@@ -219,4 +219,4 @@ corresponds_kept t label s corners edges one two =
     (and_from (meets_across t s label m) (meets_across t s m label)
     (traces_meets t s label m corners edges (λ p. one m less (sym p)))
     (traces_meets t s m label corners edges
-        (λ p. crossed s.same_parity (trace t.kind t.dimension s.facet (entry_of t m)) (trace t.kind t.dimension s.other (entry_of t label)) (two m less p)))))
+    (λ p. crossed s.same_parity (trace t.kind t.dimension s.facet (entry_of t m)) (trace t.kind t.dimension s.other (entry_of t label)) (two m less p)))))

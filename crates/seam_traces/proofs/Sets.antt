@@ -1,20 +1,14 @@
 -- Sets of numbers as numbers, and by places in a list.
-use Rattle.std.specs.Prelude.{◌≡◌, ◌≢◌, ⊤, ℕ, zero, suc, ◌+◌, ◌-◌, ◌*◌, ◌^◌, ◌<◌, ◌≤◌, min, bit_and, Bool, true, false, ◌&&◌, ◌||◌, ◌==◌, nat_eq}
+use Rattle.std.specs.Prelude.{◌≡◌, ℕ, ◌+◌, ◌*◌, ◌^◌, ◌<◌, ◌≤◌, bit_and, Bool, true, false}
 use Rattle.std.specs.Prelude.{List, [], ◌∷◌, map, filter, if◌then◌else◌}
-use Rattle.std.specs.Int.{bit_at}
-use Rattle.std.proofs.Common.{refl, sym, ap, ◌∙◌, subst, arith, inl, inr}
-use Rattle.std.proofs.lemmas.Bool.{false≢true, cases_eq, cases_lt, eq-eqb, ne_eqb, eqb-true, and_parts, and_from, or_right, or_cases}
+use Rattle.std.proofs.Common.{refl, sym, ap, ◌∙◌, arith, inl, inr}
+use Rattle.std.proofs.lemmas.Bool.{cases_eq, cases_lt}
 use Rattle.std.proofs.Math.Pow.{pow_mono}
-use Rattle.std.proofs.lemmas.Nat.{pow-add, pow_pos}
-use Rattle.std.proofs.lemmas.List.Sums.{sum_by-cons}
-use Rattle.std.proofs.lemmas.Nat.Bits.{bit_at-lt, bit_at-zero, bit_at_and, bit_at_cat_low, bit_at_cat_high, bit_at-pow_same, bit_at-pow_other, same_from_bits}
-use Rattle.lists.specs.Orders.{has}
 use Rattle.seam_traces.specs.Traces.{number_of_bits, places}
 use Rattle.lists.specs.Bits.{is_set, set_number}
-use Rattle.lists.specs.Members.{In, Climbs, Ascends}
-use Rattle.lists.proofs.Ascending.{Climbs-filter}
-use Rattle.lists.proofs.Bits.{set_number-cons, powers, multiple, twice_power, own_bit, other_bit, bit_of_set, digit_of, below_two, same_sets}
-use Rattle.lists.proofs.Bits.{min_bits, set_and, has_filter, part_of_set}
+use Rattle.lists.specs.Members.{In, Ascends}
+use Rattle.lists.proofs.Bits.{set_number-cons, twice_power}
+use Rattle.lists.proofs.Bits.{part_of_set}
 
 -- ---- bits
 
@@ -40,7 +34,7 @@ gap : (p q : ℕ → Bool) (m : ℕ) (es : List ℕ) → Ascends es → ((y : �
 gap p q m [] a least h = absurd (omega arith)
 gap p q m (e ∷ es) a least h =
     by (p e) (q e) h (λ less. let g = gap p q (e + 1) es a.1 (λ y i. let above = a.0 y i in omega arith) less in omega (arith, g, twice_power e))
-        (pow_mono (least e (inl refl)))
+    (pow_mono (least e (inl refl)))
   where
     by : (s t : Bool) → number_of_bits (s ∷ map p es) < number_of_bits (t ∷ map q es)
         → (number_of_bits (map p es) < number_of_bits (map q es) → set_number (filter p es) + 2 * 2 ^ e ≤ set_number (filter q es)) → 2 ^ m ≤ 2 ^ e

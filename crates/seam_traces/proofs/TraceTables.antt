@@ -1,5 +1,5 @@
 -- What is kept of the labels of a table tells how they compare, and so whether a label keeps the rule of seams.
-use Rattle.std.specs.Prelude.{◌≡◌, ◌↔◌, ℕ, ℤ, zero, suc, ◌+◌, ◌*◌, ◌^◌, ◌<◌, ◌≤◌, Bool, true, false, List, [], ◌∷◌, map, filter, length, All, slice_index_or}
+use Rattle.std.specs.Prelude.{◌≡◌, ◌↔◌, ℕ, ℤ, suc, ◌+◌, ◌*◌, ◌^◌, ◌<◌, ◌≤◌, Bool, true, false, List, [], ◌∷◌, map, filter, length, All, slice_index_or}
 use Rattle.std.specs.List.{list_all}
 use Rattle.std.proofs.Common.{get_or, refl, sym, ap, ◌∙◌, subst, arith, inl, inr}
 use Rattle.std.proofs.lemmas.Bool.{cases_eq, cases_lt, and_from}
@@ -11,7 +11,6 @@ use Rattle.iso_model.specs.Seams.{Seam, seam, seams, corner_across}
 use Rattle.iso_model.specs.CellLaws.{MeetsCorners, KeepsEdges}
 use Rattle.iso_model.specs.Tables.{Table, entry_of}
 use Rattle.iso_model.specs.Acceptance.{rule_seams}
-use Rattle.std.proofs.lemmas.List.Folds.{list_all_at}
 use Rattle.iso_model.specs.Dimensions.{IsDimension}
 use Rattle.cell_lattice.specs.SeamTables.{seam_at}
 use Rattle.face_tallies.specs.declared.faces.FaceTally.{FaceTally}
@@ -21,14 +20,14 @@ use Rattle.seam_traces.specs.declared.facets.Seen.{Seen}
 use Rattle.seam_traces.specs.declared.facets.Seen.TheVariants.{Never, Alike, Unlike}
 use Rattle.seam_traces.specs.Traces.{number_of_bits, places, pattern, trace, trace_across, keeps_seam}
 use Rattle.seam_traces.specs.TallyLists.{tallies_in, TellTrace}
-use Rattle.seam_traces.specs.Kept.{seen_at, tallies_at, IsSound, pattern_on, tallies_on, TakesTallies, TakesLabel, EachTakesLabel, Matches, IsFacetOf}
+use Rattle.seam_traces.specs.Kept.{seen_at, tallies_at, IsSound, pattern_on, tallies_on, TakesTallies, TakesLabel, EachTakesLabel, Matches, MatchesAt}
+use Rattle.seam_traces.specs.Kept.{IsFacetOf}
 use Rattle.seam_traces.specs.Kept.{AreFacetsOf, HaveTrace, HaveTwoTraces, TellsPattern, TellLabels, TellTable}
 use Rattle.seam_traces.proofs.FacetLists.{range_in, few_edges, members_few, face_places, seam_places}
 use Rattle.seam_traces.proofs.KeptTraces.{traces_correspond, tallies_correspond}
 use Rattle.seam_traces.proofs.KeptSteps.{across_same}
 use Rattle.seam_traces.proofs.SeamRule.{Corresponds, kept_corresponds, corresponds_kept}
 use Rattle.lists.specs.Bits.{is_set, set_number}
-use Rattle.lists.specs.Members.{In}
 use Rattle.lists.proofs.MemberLaws.{from_filter, All-from_In}
 use Rattle.iso_model.proofs.CellCounts.{few_corners}
 
@@ -37,7 +36,7 @@ use Rattle.iso_model.proofs.CellCounts.{few_corners}
 small_members : (p : ℕ → Bool) (n bound : ℕ) → n ≤ bound → All (λ k. k < bound) (filter p (numbers n))
 small_members p n bound few =
     All-from_In (λ k. k < bound) (filter p (numbers n))
-        (λ k i. let r = range_in 0 n k (from_filter p (numbers n) k i).0 in let high = r.1 in omega arith)
+    (λ k i. let r = range_in 0 n k (from_filter p (numbers n) k i).0 in let high = r.1 in omega arith)
 
 pub facet_sound : (kind : Kind) (d f : ℕ) (x : Facet) → IsDimension d → HasDimension kind d → IsFacetOf kind d f x → IsSound x
 facet_sound kind d f x is has facet =
@@ -46,7 +45,7 @@ facet_sound kind d f x is has facet =
     record {
       few_corners =
           subst (λ (l : List ℕ). length l ≤ 32) (sym facet.corners)
-              (let few = members_few (corner_in_facet kind f) (corner_count kind d) in omega arith);
+          (let few = members_few (corner_in_facet kind f) (corner_count kind d) in omega arith);
       corners = subst (λ (l : List ℕ). All (λ k. k < 32) l) (sym facet.corners) (small_members (corner_in_facet kind f) (corner_count kind d) 32 corners);
       few_edges = subst (λ (l : List ℕ). length l ≤ 32) (sym facet.edges) (let few = members_few (edge_in_facet kind d f) (edge_count kind d) in omega arith);
       edges = subst (λ (l : List ℕ). All (λ k. k < 32) l) (sym facet.edges) (small_members (edge_in_facet kind d f) (edge_count kind d) 32 edges);
@@ -75,8 +74,8 @@ facets_taken kind d label tallies old new are takes = record {
   count = takes.count ∙ are.count;
   each =
       λ f x less.
-          facet_taken kind d f label tallies (get_or old f x) (get_or new f x) (are.each f x less)
-              (takes.each f x (let n = are.count in omega arith));
+      facet_taken kind d f label tallies (get_or old f x) (get_or new f x) (are.each f x less)
+      (takes.each f x (let n = are.count in omega arith));
 }
 
 -- ---- one more label
@@ -87,7 +86,7 @@ straight (c ∷ cs) = ap (λ l. c ∷ l) (straight cs)
 
 have_more : (t : Table) (n f p : ℕ) (kept : List FaceTally) → (h : HaveTrace t n f p kept)
     → (pattern t.kind t.dimension f n ≡ p → trace t.kind t.dimension f (entry_of t n) ≡ trace t.kind t.dimension f (entry_of t h.first))
-        → HaveTrace t (n + 1) f p kept
+    → HaveTrace t (n + 1) f p kept
 have_more t n f p kept h last = record {
   first = h.first;
   is_label = let less = h.is_label in omega arith;
@@ -98,7 +97,7 @@ have_more t n f p kept h last = record {
     | inr behind ↦
         let same : n ≡ m = omega arith in
         subst (λ k. trace t.kind t.dimension f (entry_of t k) ≡ trace t.kind t.dimension f (entry_of t h.first)) same
-            (last (subst (λ k. pattern t.kind t.dimension f k ≡ p) (sym same) e))
+        (last (subst (λ k. pattern t.kind t.dimension f k ≡ p) (sym same) e))
   ];
 }
 
@@ -143,7 +142,7 @@ tells_here t n f p Alike s' kept kept' more is has here tell takes h = elim take
   | inl same ↦
       let corresponds : trace t.kind t.dimension f (entry_of t n) ≡ trace t.kind t.dimension f (entry_of t h.first) =
       traces_correspond t.kind t.dimension f f is has false (entry_of t h.first) (entry_of t n) kept more refl h.tells tell
-          (sym same.1 ∙ sym (across_same kept))
+      (sym same.1 ∙ sym (across_same kept))
       ∙ straight (trace t.kind t.dimension f (entry_of t h.first)) in
       let whole : HaveTrace t (n + 1) f p kept = have_more t n f p kept h (λ e. corresponds) in
       subst (λ b. TellsPattern t (n + 1) f p b kept') (sym same.0) (subst (λ l. HaveTrace t (n + 1) f p l) (sym takes.0) whole)
@@ -157,7 +156,7 @@ tells_here t n f p Alike s' kept kept' more is has here tell takes h = elim take
         other_pattern = here;
         differ = λ e. other.1 (
             tallies_correspond t.kind t.dimension f f is has false (entry_of t n) (entry_of t h.first) more kept refl tell h.tells
-                (e ∙ sym (straight (trace t.kind t.dimension f (entry_of t n))))
+            (e ∙ sym (straight (trace t.kind t.dimension f (entry_of t n))))
             ∙ across_same more);
       } in
       subst (λ b. TellsPattern t (n + 1) f p b kept') (sym other.0) whole
@@ -167,18 +166,18 @@ tells_here t n f p Unlike s' kept kept' more is has here tell takes h = subst (�
 tells_facet : (t : Table) (n f p : ℕ) (tallies : List FaceTally) (old new : Facet) → IsDimension t.dimension → HasDimension t.kind t.dimension
     → IsFacetOf t.kind t.dimension f old
     → AreTallies t.dimension (entry_of t n) tallies → TakesLabel n tallies old new → TellsPattern t n f p (seen_at old p) (tallies_at old p)
-        → TellsPattern t (n + 1) f p (seen_at new p) (tallies_at new p)
+    → TellsPattern t (n + 1) f p (seen_at new p) (tallies_at new p)
 tells_facet t n f p tallies old new is has facet are takes h =
     let on : pattern_on old n ≡ pattern t.kind t.dimension f n = ap (λ (l : List ℕ). places l n) facet.corners in
     elim (cases_eq p (pattern_on old n)) [
       | inl e ↦
           let takes_here =
-              subst (λ q. TakesTallies (tallies_on old tallies) (seen_at old q) (tallies_at old q) (seen_at new q) (tallies_at new q)) (sym e)
-                  takes.here in
+          subst (λ q. TakesTallies (tallies_on old tallies) (seen_at old q) (tallies_at old q) (seen_at new q) (tallies_at new q)) (sym e)
+          takes.here in
           let tell : TellTrace t.kind t.dimension f (entry_of t n) (tallies_on old tallies) =
           record { tallies = tallies; are_tallies = are; kept_are = ap (λ (l : List ℕ). tallies_in l tallies) facet.edges } in
           tells_here t n f p (seen_at old p) (seen_at new p) (tallies_at old p) (tallies_at new p) (tallies_on old tallies) is has (sym (e ∙ on)) tell
-              takes_here h
+          takes_here h
       | inr other ↦
           let r = takes.others p other in
           subst (λ s. TellsPattern t (n + 1) f p s (tallies_at new p)) (sym r.0) (subst (λ l. TellsPattern t (n + 1) f p (seen_at old p) l) (sym r.1)
@@ -190,12 +189,12 @@ pub tells_more : (kind : Kind) (d : ℕ) (t : Table) (n : ℕ) (tallies : List F
     → AreFacetsOf kind d old → AreTallies d (entry_of t n) tallies → EachTakesLabel n tallies old new → TellLabels t n old → TellLabels t (n + 1) new
 tells_more kind d t n tallies old new k e is has facets are takes tell f p x in_f in_p =
     let facets' : AreFacetsOf t.kind t.dimension old =
-        subst (λ b. AreFacetsOf b t.dimension old) (sym k) (subst (λ b. AreFacetsOf kind b old) (sym e) facets) in
+    subst (λ b. AreFacetsOf b t.dimension old) (sym k) (subst (λ b. AreFacetsOf kind b old) (sym e) facets) in
     let is' : IsDimension t.dimension = subst IsDimension (sym e) is in
     let has' : HasDimension t.kind t.dimension = subst (λ b. HasDimension b t.dimension) (sym k) (subst (λ b. HasDimension kind b) (sym e) has) in
     let are' : AreTallies t.dimension (entry_of t n) tallies = subst (λ b. AreTallies b (entry_of t n) tallies) (sym e) are in
     tells_facet t n f p tallies (get_or old f x) (get_or new f x) is' has' (facets'.each f x in_f) are'
-        (takes.each f x (let c = facets'.count in omega arith)) (tell f p x in_f in_p)
+    (takes.each f x (let c = facets'.count in omega arith)) (tell f p x in_f in_p)
 
 -- before the first label
 pub tells_none : (t : Table) (facets : List Facet) → All (λ (x : Facet). (p : ℕ) → seen_at x p ≡ Never) facets
@@ -208,7 +207,7 @@ tells_none t facets never count f p x in_f in_p =
 match_all : (t : Table) (n f g : ℕ) (same : Bool) (label : ℕ) (more : List FaceTally) (s : Seen) (kept : List FaceTally) → IsDimension t.dimension
     → HasDimension t.kind t.dimension
     → face_places t.kind t.dimension f ≡ face_places t.kind t.dimension g → TellTrace t.kind t.dimension f (entry_of t label) more
-        → TellsPattern t n g (pattern t.kind t.dimension f label) s kept
+    → TellsPattern t n g (pattern t.kind t.dimension f label) s kept
     → Matches same more s kept → Corresponds t n f g same label
 match_all t n f g same label more Never kept is has e tell h match = λ m less p. absurd (h m less p)
 match_all t n f g same label more Alike kept is has e tell h match =
@@ -218,19 +217,14 @@ match_all t n f g same label more Unlike kept is has e tell h match = absurd mat
 all_match : (t : Table) (n f g : ℕ) (same : Bool) (label : ℕ) (more : List FaceTally) (s : Seen) (kept : List FaceTally) → IsDimension t.dimension
     → HasDimension t.kind t.dimension
     → face_places t.kind t.dimension f ≡ face_places t.kind t.dimension g → TellTrace t.kind t.dimension f (entry_of t label) more
-        → TellsPattern t n g (pattern t.kind t.dimension f label) s kept
+    → TellsPattern t n g (pattern t.kind t.dimension f label) s kept
     → Corresponds t n f g same label → Matches same more s kept
 all_match t n f g same label more Never kept is has e tell h all = tt
 all_match t n f g same label more Alike kept is has e tell h all =
     tallies_correspond t.kind t.dimension f g is has same (entry_of t label) (entry_of t h.first) more kept e tell h.tells
-        (all h.first h.is_label h.has_pattern)
+    (all h.first h.is_label h.has_pattern)
 all_match t n f g same label more Unlike kept is has e tell h all =
     h.differ (all h.one h.one_label h.one_pattern ∙ sym (all h.other h.other_label h.other_pattern))
-
--- what the kept tallies of one facet say of a label by its pattern and its tallies on another
-abbrev pub MatchesAt : Bool → ℕ → List FaceTally → Facet → Facet → Type 0
-MatchesAt same label tallies here there =
-    Matches same (tallies_on here tallies) (seen_at there (pattern_on here label)) (tallies_at there (pattern_on here label))
 
 places_few : (members : List ℕ) (set : ℕ) → places members set < 2 ^ length members
 places_few [] set = omega arith
@@ -247,20 +241,20 @@ places_few (m ∷ members) set =
 end_law : (t : Table) (facets : List Facet) (f g : ℕ) (same : Bool) (label : ℕ) (tallies : List FaceTally) (here there : Facet)
     → IsDimension t.dimension → HasDimension t.kind t.dimension
     → TellLabels t (label_count t.kind t.dimension) facets → IsFacetOf t.kind t.dimension f here → there ≡ get_or facets g there
-        → g < facet_count t.kind t.dimension
+    → g < facet_count t.kind t.dimension
     → length (facet_corners t.kind t.dimension f) ≡ length (facet_corners t.kind t.dimension g)
-        → face_places t.kind t.dimension f ≡ face_places t.kind t.dimension g
+    → face_places t.kind t.dimension f ≡ face_places t.kind t.dimension g
     → AreTallies t.dimension (entry_of t label) tallies
-        → MatchesAt same label tallies here there ↔ Corresponds t (label_count t.kind t.dimension) f g same label
+    → MatchesAt same label tallies here there ↔ Corresponds t (label_count t.kind t.dimension) f g same label
 end_law t facets f g same label tallies here there is has tell facet read in_g wide e are =
     let n = label_count t.kind t.dimension in
     let p = pattern t.kind t.dimension f label in
     let on : pattern_on here label ≡ p = ap (λ (l : List ℕ). places l label) facet.corners in
     let few : p < 2 ^ length (facet_corners t.kind t.dimension g) = subst (λ k. p < 2 ^ k) wide (places_few (facet_corners t.kind t.dimension f) label) in
     let known : TellsPattern t n g p (seen_at there p) (tallies_at there p) =
-        subst (λ (x : Facet). TellsPattern t n g p (seen_at x p) (tallies_at x p)) (sym read) (tell g p there in_g few) in
+    subst (λ (x : Facet). TellsPattern t n g p (seen_at x p) (tallies_at x p)) (sym read) (tell g p there in_g few) in
     let more : TellTrace t.kind t.dimension f (entry_of t label) (tallies_on here tallies) =
-        record { tallies = tallies; are_tallies = are; kept_are = ap (λ (l : List ℕ). tallies_in l tallies) facet.edges } in (
+    record { tallies = tallies; are_tallies = are; kept_are = ap (λ (l : List ℕ). tallies_in l tallies) facet.edges } in (
       λ match. match_all t n f g same label (tallies_on here tallies) (seen_at there p) (tallies_at there p) is has e more known
           (subst (λ q. Matches same (tallies_on here tallies) (seen_at there q) (tallies_at there q)) on match),
       λ all. subst (λ q. Matches same (tallies_on here tallies) (seen_at there q) (tallies_at there q)) (sym on)
@@ -291,10 +285,10 @@ own_seam_law t facets label tallies s x y is has tell seam are =
     let wide : length (facet_corners t.kind t.dimension s.facet) ≡ length (facet_corners t.kind t.dimension s.other) =
     sym (length-map (corner_across t.kind t.dimension s) (facet_corners t.kind t.dimension s.facet)) ∙ ap (λ (l : List ℕ). length l) seam.corners in
     let one =
-        end_law t facets s.facet s.other s.same_parity label tallies x y is has tell seam.facet seam.other_read seam.other_in_facets wide seam.places
-            are in
+    end_law t facets s.facet s.other s.same_parity label tallies x y is has tell seam.facet seam.other_read seam.other_in_facets wide seam.places
+    are in
     let two = end_law t facets s.other s.facet s.same_parity label tallies y x is has tell seam.other seam.read seam.in_facets (sym wide)
-        (sym seam.places) are in (
+    (sym seam.places) are in (
       λ match. corresponds_kept t label s seam.corners seam.edges (one.0 match.0) (two.0 match.1),
       λ kept. let r = kept_corresponds t label s seam.corners seam.edges kept in (one.1 r.0, two.1 r.1),
     )
@@ -310,7 +304,7 @@ pub seam_law : (kind : Kind) (d : ℕ) (t : Table) (facets : List Facet) (label 
 seam_law kind d t facets label tallies s x y is has tell seam are =
     let law : SeamLaw t facets label tallies s x y kind d =
     subst (λ k. SeamLaw t facets label tallies s x y k d) tell.kind_is
-        (subst (λ n. SeamLaw t facets label tallies s x y t.kind n) tell.dimension_is (own_seam_law t facets label tallies s x y)) in
+    (subst (λ n. SeamLaw t facets label tallies s x y t.kind n) tell.dimension_is (own_seam_law t facets label tallies s x y)) in
     law is has tell.labels seam are
 
 -- ---- a seam by its number

@@ -4,6 +4,7 @@ use Rattle.iso_model.specs.declared.Kind.{Kind}
 use Rattle.iso_model.specs.Cells.{facet_count, facet_corners, facet_edges, label_count}
 use Rattle.iso_model.specs.Tables.{Table, entry_of}
 use Rattle.face_tallies.specs.declared.faces.FaceTally.{FaceTally}
+use Rattle.face_tallies.specs.Tallies.{AreTallies}
 use Rattle.seam_traces.specs.declared.facets.Facet.{Facet}
 use Rattle.seam_traces.specs.declared.facets.Seen.{Seen}
 use Rattle.seam_traces.specs.declared.facets.Seen.TheVariants.{Never, Alike, Unlike}
@@ -69,6 +70,11 @@ Matches same here Never kept = ⊤
 Matches same here Alike kept = kept ≡ tallies_across same here
 Matches same here Unlike kept = ⊥
 
+-- what the kept tallies of one facet say of a label by its pattern and its tallies on another
+abbrev pub MatchesAt : Bool → ℕ → List FaceTally → Facet → Facet → Type 0
+MatchesAt same label tallies here there =
+    Matches same (tallies_on here tallies) (seen_at there (pattern_on here label)) (tallies_at there (pattern_on here label))
+
 -- ---- the facets of a cell, and the labels of a table
 
 -- a facet has the corners and the edges of one of the cell
@@ -119,3 +125,7 @@ pub record TellTable (kind : Kind) (d : ℕ) (t : Table) (facets : List Facet) :
   pub kind_is : t.kind ≡ kind
   pub dimension_is : t.dimension ≡ d
   pub labels : TellLabels t (label_count kind d) facets
+
+-- what holds of each table in which a label has these tallies, and of whose labels the facets tell
+abbrev pub InTables : Kind → ℕ → List Facet → ℕ → List FaceTally → (Table → Type 0) → Type 0
+InTables kind d facets label tallies P = (t : Table) → TellTable kind d t facets → AreTallies d (entry_of t label) tallies → P t

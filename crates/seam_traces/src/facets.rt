@@ -1,7 +1,7 @@
 //! A facet of a cell, and what is kept of the labels that were taken.
 
 ghost use Rattle.std.specs.Prelude.{◌≡◌, ◌↔◌, ℕ, ◌^◌, ◌<◌, ◌≤◌, length, slice_index_or, All, IfOk, OnOk, IsTrue};
-ghost use Rattle.seam_traces.specs.Kept.{seen_at, tallies_at, IsSound, pattern_on, tallies_on, TakesLabel, Matches, IsFacetOf, AreFacetsOf, EachTakesLabel};
+ghost use Rattle.seam_traces.specs.Kept.{seen_at, IsSound, TakesLabel, MatchesAt, IsFacetOf, AreFacetsOf, EachTakesLabel};
 
 use crate::places::{members_of, places_of, push};
 use crate::walks::{are_across, tallies_in};
@@ -77,7 +77,7 @@ impl Facet {
         requires one { IsSound self.now }
         requires two { IsSound other.now }
         requires meet { length self.now.corners.items ≡ length other.now.corners.items }
-        ensures { IsTrue result ↔ Matches same (tallies_on other.now tallies.now) (seen_at self.now (pattern_on other.now label)) (tallies_at self.now (pattern_on other.now label)) }
+        ensures { IsTrue result ↔ MatchesAt same label tallies.now other.now self.now }
     {
         let pattern = places_of(&other.corners, label) as usize;
         match self.seen[pattern] {

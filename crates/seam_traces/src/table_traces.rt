@@ -2,12 +2,10 @@
 
 ghost use Rattle.std.specs.Prelude.{◌≡◌, ◌<◌, slice_index_or, IfOk};
 ghost use Rattle.iso_model.specs.Seams.{seams};
-ghost use Rattle.iso_model.specs.Tables.{Table as TableValue, entry_of};
 ghost use Rattle.iso_model.specs.Acceptance.{rule_seams};
 ghost use Rattle.cell_lattice.specs.SeamTables.{seam_at};
-ghost use Rattle.face_tallies.specs.Tallies.{AreTallies};
 ghost use Rattle.seam_traces.specs.Traces.{keeps_seam};
-ghost use Rattle.seam_traces.specs.Kept.{TellTable, IsSound, IsFacetOf};
+ghost use Rattle.seam_traces.specs.Kept.{TellTable, InTables, IsSound, IsFacetOf};
 
 use crate::facets::{Facet, add_label, facets_of};
 use cell_lattice::Cell;
@@ -59,7 +57,7 @@ impl<C: Cell<D>, const D: usize> Traces<C, D> {
     /// Whether a label keeps the rule of seams in the table of which these are the traces. `tallies` are those of the
     /// label's tuples.
     pub fn keeps_seams(&self, label: u32, tallies: &[FaceTally]) -> bool
-        ensures { (t : TableValue) → TellTable C.KIND D t self.now → AreTallies D (entry_of t label) tallies.now → result ≡ rule_seams (seams C.KIND D) t label }
+        ensures { InTables C.KIND D self.now label tallies.now (λ t. result ≡ rule_seams (seams C.KIND D) t label) }
     {
         for number in 0..C::SEAMS {
             if !self.keeps_seam(number as u8, label, tallies) {
@@ -72,7 +70,7 @@ impl<C: Cell<D>, const D: usize> Traces<C, D> {
     /// Whether a label keeps the rule at one seam.
     fn keeps_seam(&self, number: u8, label: u32, tallies: &[FaceTally]) -> bool
         requires { number < C.SEAMS }
-        ensures { (t : TableValue) → TellTable C.KIND D t self.now → AreTallies D (entry_of t label) tallies.now → result ≡ keeps_seam t label (seam_at C.KIND D number) }
+        ensures { InTables C.KIND D self.now label tallies.now (λ t. result ≡ keeps_seam t label (seam_at C.KIND D number)) }
     {
         let seam = C::seam(number);
         let facet = self.facet(seam.facet);

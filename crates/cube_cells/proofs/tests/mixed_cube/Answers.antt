@@ -18,10 +18,10 @@ listed g iso places i d are h =
     let mixed : List ℕ = filter (is_mixed g iso) (numbers (cube_count g.sizes)) in
     let inside : i < length mixed = omega (arith, h, ap length are, length-map mixed (place_of g.sizes)) in
     let at : get_or places i d ≡ place_of g.sizes (slice_index mixed i) =
-        ap (λ (xs : List CubePlace). get_or xs i d) are ∙ get_or-map (place_of g.sizes) mixed i 0 d inside in
+    ap (λ (xs : List CubePlace). get_or xs i d) are ∙ get_or-map (place_of g.sizes) mixed i 0 d inside in
     let below : slice_index mixed i < cube_count g.sizes =
-        below_contained (cube_count g.sizes) (slice_index mixed i)
-            (Contains-filter (is_mixed g iso) (numbers (cube_count g.sizes)) (slice_index mixed i) (Contains-at mixed i 0 inside)) in (
+    below_contained (cube_count g.sizes) (slice_index mixed i)
+    (Contains-filter (is_mixed g iso) (numbers (cube_count g.sizes)) (slice_index mixed i) (Contains-at mixed i 0 inside)) in (
       subst (λ (p : CubePlace). p.number < cube_count g.sizes) (sym at) below,
       subst (λ (p : CubePlace). p ≡ place_of g.sizes p.number) (sym at) refl,
     )
@@ -33,11 +33,10 @@ read-requires g c =
     let some : 0 < length places = search rules in
     let stands = listed c.args.grid.now (pos 109) places 0 first c.in_ok-cubes.ensures some in
     let at : first ≡ get_or places 0 first = c.index.ensures in
-    search
-        (
-          rules,
-          subst (λ (p : CubePlace). p.number < cube_count c.args.grid.now.sizes) (sym at) stands.0,
-          subst (λ (p : CubePlace). p ≡ place_of c.args.grid.now.sizes p.number) (sym at) stands.1,
-          c.requires.axes,
-          c.requires.regular
-        )
+    search (
+      rules,
+      subst (λ (p : CubePlace). p.number < cube_count c.args.grid.now.sizes) (sym at) stands.0,
+      subst (λ (p : CubePlace). p ≡ place_of c.args.grid.now.sizes p.number) (sym at) stands.1,
+      c.requires.axes,
+      c.requires.regular,
+    )

@@ -26,7 +26,7 @@ returns g c =
     c.point_between.ensures
     ∙ ap (λ (n : ℕ). map (coordinate_between c.args.edge.now.low c.args.edge.now.high n c.abs_diff-way.result) (axes (length c.args.edge.now.low))) part
     ∙ ap
-        (λ (n : ℕ).
-             map (coordinate_between c.args.edge.now.low c.args.edge.now.high (unsigned_abs (pos 8 *ℤ c.args.iso -ℤ c.args.low)) n)
-                 (axes (length c.args.edge.now.low)))
-        way
+    (λ (n : ℕ).
+    map (coordinate_between c.args.edge.now.low c.args.edge.now.high (unsigned_abs (pos 8 *ℤ c.args.iso -ℤ c.args.low)) n)
+    (axes (length c.args.edge.now.low)))
+    way

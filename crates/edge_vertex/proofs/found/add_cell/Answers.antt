@@ -7,7 +7,7 @@ use Rattle.edge_vertex.proofs.found.add_cell.Goals as goal
 pub returns-then-label-eq0 : goal.returns-then-label-eq0
 returns-then-label-eq0 g c = λ s iso number axes is.
     all_negative g.C.Cell.KIND s.sizes (number * g.C.Split.PER_CUBE + c.args.rank) c.args.label g.C.Cell.EDGES (edges_of c.args.edges.now.keys)
-        c.if-label-eq0.true
+    c.if-label-eq0.true
 
 pub returns-then-label-all_corners : goal.returns-then-label-all_corners
 returns-then-label-all_corners g c = λ s iso number axes is.
@@ -26,14 +26,14 @@ loop-edge-init g c = λ s iso number axes is.
 pub loop-edge-preserved : goal.loop-edge-preserved
 loop-edge-preserved g c = λ s iso number axes is.
     next_edge g.C.Cell.KIND s.sizes (number * g.C.Split.PER_CUBE + c.args.rank) c.args.label c.loop-edge.edge (edges_of c.args.edges.now.keys)
-        (edges_of c.loop-edge.edges.keys) (edges_of c.add_if.new.edges.keys) (c.loop-edge.invariant s iso number axes is)
-        (c.in_ok-add_if.ensures s iso number axes is)
+    (edges_of c.loop-edge.edges.keys) (edges_of c.add_if.new.edges.keys) (c.loop-edge.invariant s iso number axes is)
+    (c.in_ok-add_if.ensures s iso number axes is)
 
 pub returns : goal.returns
 returns g c = λ s iso number axes is.
     let all : c.loop-edge.edge ≡ g.C.Cell.EDGES = omega (arith, c.loop-edge-test.false, c.loop-edge.auto.edge-end, c.EDGES-edge-end.ensures) in
     subst
-        (λ (n : ℕ).
-             Adds (IsBipolarOf g.C.Cell.KIND s.sizes (number * g.C.Split.PER_CUBE + c.args.rank) c.args.label n) (edges_of c.args.edges.now.keys)
-                 (edges_of c.loop-edge.edges.keys))
-        all (c.loop-edge.invariant s iso number axes is)
+    (λ (n : ℕ).
+    Adds (IsBipolarOf g.C.Cell.KIND s.sizes (number * g.C.Split.PER_CUBE + c.args.rank) c.args.label n) (edges_of c.args.edges.now.keys)
+    (edges_of c.loop-edge.edges.keys))
+    all (c.loop-edge.invariant s iso number axes is)

@@ -7,5 +7,5 @@ use Rattle.edge_vertex.proofs.found.add_cell.Given as goal
 abbrev pub invariant-loop-edge : goal.invariant-loop-edge
 invariant-loop-edge g l =
     (s : Grid) (iso : ℤ) (number : ℕ) → length s.sizes ≡ g.row.D → IsSignedCube s iso number l.cube
-        → Adds (IsBipolarOf g.C.Cell.KIND s.sizes (number * g.C.Split.PER_CUBE + l.rank) l.label l.edge) (edges_of l.initial.edges.keys)
-              (edges_of l.edges.keys)
+    → Adds (IsBipolarOf g.C.Cell.KIND s.sizes (number * g.C.Split.PER_CUBE + l.rank) l.label l.edge) (edges_of l.initial.edges.keys)
+    (edges_of l.edges.keys)

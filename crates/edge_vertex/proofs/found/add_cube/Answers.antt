@@ -11,15 +11,15 @@ loop-rank-init g c = λ s iso number axes is.
 pub loop-rank-preserved : goal.loop-rank-preserved
 loop-rank-preserved g c = λ s iso number axes is.
     next_rank (volume g.C.Cell.KIND s iso None) g.C.Cell.EDGES (number * g.C.Split.PER_CUBE) c.loop-rank.rank
-        (number * g.C.Split.PER_CUBE + c.loop-rank.rank) c.label-label.result (edges_of c.args.edges.now.keys) (edges_of c.loop-rank.edges.keys)
-        (edges_of c.add_cell.new.edges.keys)
+    (number * g.C.Split.PER_CUBE + c.loop-rank.rank) c.label-label.result (edges_of c.args.edges.now.keys) (edges_of c.loop-rank.edges.keys)
+    (edges_of c.add_cell.new.edges.keys)
     refl (c.label-label.ensures.label s iso number axes is) (c.loop-rank.invariant s iso number axes is) (c.in_ok-add_cell.ensures s iso number axes is)
 
 pub returns : goal.returns
 returns g c = λ s iso number axes is.
     let all : c.loop-rank.rank ≡ g.C.Split.PER_CUBE = omega (arith, c.loop-rank-test.false, c.loop-rank.auto.rank-end, c.PER_CUBE-rank-end.ensures) in
     subst
-        (λ (n : ℕ).
-             Adds (IsBipolarFrom (volume g.C.Cell.KIND s iso None) g.C.Cell.EDGES (number * g.C.Split.PER_CUBE) n) (edges_of c.args.edges.now.keys)
-                 (edges_of c.loop-rank.edges.keys))
-        all (c.loop-rank.invariant s iso number axes is)
+    (λ (n : ℕ).
+    Adds (IsBipolarFrom (volume g.C.Cell.KIND s iso None) g.C.Cell.EDGES (number * g.C.Split.PER_CUBE) n) (edges_of c.args.edges.now.keys)
+    (edges_of c.loop-rank.edges.keys))
+    all (c.loop-rank.invariant s iso number axes is)

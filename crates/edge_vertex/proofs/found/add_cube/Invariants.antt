@@ -7,5 +7,5 @@ use Rattle.edge_vertex.proofs.found.add_cube.Given as goal
 abbrev pub invariant-loop-rank : goal.invariant-loop-rank
 invariant-loop-rank g l =
     (s : Grid) (iso : ℤ) (number : ℕ) → length s.sizes ≡ g.row.D → IsSignedCube s iso number l.cube
-        → Adds (IsBipolarFrom (volume g.C.Cell.KIND s iso None) g.C.Cell.EDGES (number * g.C.Split.PER_CUBE) l.rank) (edges_of l.initial.edges.keys)
-              (edges_of l.edges.keys)
+    → Adds (IsBipolarFrom (volume g.C.Cell.KIND s iso None) g.C.Cell.EDGES (number * g.C.Split.PER_CUBE) l.rank) (edges_of l.initial.edges.keys)
+    (edges_of l.edges.keys)

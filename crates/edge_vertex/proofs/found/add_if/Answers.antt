@@ -16,10 +16,10 @@ returns-then-is_bipolar g c = λ s iso number axes is.
     let high : c.edge.result.high ≡ e.high = c.edge.ensures.high s iso number axes is in
     let same : edge_of c.edge.result ≡ e = λ i. record { low = low i; high = high i } in
     OnOk-weaker c.add.result (Adds (λ x. edge_of c.edge.result ≡ x) (edges_of c.args.edges.now.keys) (edges_of c.add.new.edges.keys))
-        (Adds (IsBipolarAt g.C.Cell.KIND s.sizes cell c.args.label c.args.edge) (edges_of c.args.edges.now.keys) (edges_of c.add.new.edges.keys))
+    (Adds (IsBipolarAt g.C.Cell.KIND s.sizes cell c.args.label c.args.edge) (edges_of c.args.edges.now.keys) (edges_of c.add.new.edges.keys))
     (λ a.
-         at_bipolar g.C.Cell.KIND s.sizes cell c.args.label c.args.edge (edge_of c.edge.result) (edges_of c.args.edges.now.keys)
-             (edges_of c.add.new.edges.keys) so same a)
+    at_bipolar g.C.Cell.KIND s.sizes cell c.args.label c.args.edge (edge_of c.edge.result) (edges_of c.args.edges.now.keys)
+    (edges_of c.add.new.edges.keys) so same a)
     c.add.ensures
 
 pub returns : goal.returns

@@ -12,6 +12,6 @@ returns-clause-value g c =
     let fits : FitsSigned w64 c.cube_sum.result = fits_signed_from_abs w64 c.cube_sum.result (omega (arith, c.cube_sum.ensures.small)) in
     rw (to_z-of_z w64 c.cube_sum.result fits)
     (c.cube_sum.ensures.sum
-         ∙ sym
-               (centre_value c.args.sizes.now c.args.samples.now c.args.point.now c.place_of-first.result c.requires.point
-                    c.place_of-first.ensures.place))
+    ∙ sym
+    (centre_value c.args.sizes.now c.args.samples.now c.args.point.now c.place_of-first.result c.requires.point
+    c.place_of-first.ensures.place))

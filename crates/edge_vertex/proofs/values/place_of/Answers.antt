@@ -11,9 +11,9 @@ next_place-place-requires g c =
     let from : PlaceFrom c.args.sizes.now c.args.point.now (axis + 1) c.loop-axis.place =
     subst (λ (n : ℕ). PlaceFrom c.args.sizes.now c.args.point.now n c.loop-axis.place) (omega (arith, c.loop-axis-test.true)) c.loop-axis.invariant in
     let next =
-        one_axis_more c.args.sizes.now c.args.point.now axis c.loop-axis.place
-            (omega (arith, c.loop-axis-test.true, c.loop-axis.auto.axis, c.requires.axes)) (omega (arith, c.requires.axes))
-            (λ j h. c.requires.inside j (omega (arith, h, c.requires.axes))) from in
+    one_axis_more c.args.sizes.now c.args.point.now axis c.loop-axis.place
+    (omega (arith, c.loop-axis-test.true, c.loop-axis.auto.axis, c.requires.axes)) (omega (arith, c.requires.axes))
+    (λ j h. c.requires.inside j (omega (arith, h, c.requires.axes))) from in
     omega (arith, next.few, c.requires.few)
 
 pub loop-axis-preserved : goal.loop-axis-preserved
@@ -22,9 +22,9 @@ loop-axis-preserved g c =
     let from : PlaceFrom c.args.sizes.now c.args.point.now (axis + 1) c.loop-axis.place =
     subst (λ (n : ℕ). PlaceFrom c.args.sizes.now c.args.point.now n c.loop-axis.place) (omega (arith, c.loop-axis-test.true)) c.loop-axis.invariant in
     let next =
-        one_axis_more c.args.sizes.now c.args.point.now axis c.loop-axis.place
-            (omega (arith, c.loop-axis-test.true, c.loop-axis.auto.axis, c.requires.axes)) (omega (arith, c.requires.axes))
-            (λ j h. c.requires.inside j (omega (arith, h, c.requires.axes))) from in
+    one_axis_more c.args.sizes.now c.args.point.now axis c.loop-axis.place
+    (omega (arith, c.loop-axis-test.true, c.loop-axis.auto.axis, c.requires.axes)) (omega (arith, c.requires.axes))
+    (λ j h. c.requires.inside j (omega (arith, h, c.requires.axes))) from in
     rw c.next_place-place.ensures next.next
 
 pub returns : goal.returns

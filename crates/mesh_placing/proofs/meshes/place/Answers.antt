@@ -21,7 +21,7 @@ all_vertices-requires g c =
     let has : HasDimension g.C.Cell.KIND (length c.args.grid.now.sizes) = subst (HasDimension g.C.Cell.KIND) (sym c.requires.axes) g.met.C.Cell.has_dimension in
     let crossed : All (IsCrossed c.args.grid.now (to_z w64 (of_z w64 c.args.iso))) c.in_ok-edges.edges =
     subst (λ (es : List Edge). All (IsCrossed c.args.grid.now (to_z w64 (of_z w64 c.args.iso))) es) (sym c.in_ok-edges.ensures)
-        (bipolar_edges-crossed g.C.Cell.KIND c.args.grid.now (to_z w64 (of_z w64 c.args.iso)) has) in
+    (bipolar_edges-crossed g.C.Cell.KIND c.args.grid.now (to_z w64 (of_z w64 c.args.iso)) has) in
     search (rules, c.requires.regular, c.requires.axes, crossed)
 
 -- the mesh of these vertices and simplices
@@ -31,7 +31,7 @@ unfolding placed_mesh
 mesh_is v t edges m listed vertices simplices =
     let positions : m.vertices ≡ map (vertex_of v) (bipolar_edges v) = vertices ∙ ap (map (vertex_of v)) listed in
     let corners : m.simplices ≡ flat_map (cell_simplices v t (bipolar_edges v)) (cells v) =
-        simplices ∙ ap (λ (es : List Edge). flat_map (cell_simplices v t es) (cells v)) listed in
+    simplices ∙ ap (λ (es : List Edge). flat_map (cell_simplices v t es) (cells v)) listed in
     λ i. record { vertices = positions i; simplices = corners i }
 
 pub returns-clause-mesh : goal.returns-clause-mesh
@@ -40,7 +40,7 @@ returns-clause-mesh g c =
     let m : Mesh = record { vertices = c.in_ok-vertices.vertices.items; simplices = c.in_ok-simplices.simplices.items } in
     let is : m ≡ placed_mesh (volume g.C.Cell.KIND c.args.grid.now (to_z w64 (of_z w64 c.args.iso)) None) c.args.table.now =
     mesh_is (volume g.C.Cell.KIND c.args.grid.now (to_z w64 (of_z w64 c.args.iso)) None) c.args.table.now c.in_ok-edges.edges m c.in_ok-edges.ensures
-        c.in_ok-vertices.ensures c.in_ok-simplices.ensures in
+    c.in_ok-vertices.ensures c.in_ok-simplices.ensures in
     is ∙ ap (λ (z : ℤ). placed_mesh (volume g.C.Cell.KIND c.args.grid.now z None) c.args.table.now) iso
 
 -- the table fits the grid
@@ -56,21 +56,21 @@ fits_grid kind d grid t table same_kind same_dimension axes keeps = record {
 pub all_simplices-requires : goal.all_simplices-requires
 all_simplices-requires g c =
     let fits : FitsGrid g.C.Cell.KIND c.args.grid.now c.args.table.now =
-        fits_grid g.C.Cell.KIND g.row.D c.args.grid.now c.args.table.now c.kind.ensures.table c.requires.kind c.kind.ensures.dimension c.requires.axes
-            c.requires.edges in
+    fits_grid g.C.Cell.KIND g.row.D c.args.grid.now c.args.table.now c.kind.ensures.table c.requires.kind c.kind.ensures.dimension c.requires.axes
+    c.requires.edges in
     search (rules, fits, c.requires.regular, c.requires.axes, c.in_ok-edges.ensures)
 
 pub returns-clause-shape : goal.returns-clause-shape
 returns-clause-shape g c =
     subst (λ (d : ℕ). IsMesh d (record { vertices = c.in_ok-vertices.vertices.items; simplices = c.in_ok-simplices.simplices.items })) c.requires.axes
     (subst (IsMesh (length c.args.grid.now.sizes)) (sym (returns-clause-mesh g c))
-         (placed_mesh-shape g.C.Cell.KIND c.args.grid.now c.args.iso c.args.table.now
-              (fits_grid g.C.Cell.KIND g.row.D c.args.grid.now c.args.table.now c.kind.ensures.table c.requires.kind c.kind.ensures.dimension
-                   c.requires.axes c.requires.edges)))
+    (placed_mesh-shape g.C.Cell.KIND c.args.grid.now c.args.iso c.args.table.now
+    (fits_grid g.C.Cell.KIND g.row.D c.args.grid.now c.args.table.now c.kind.ensures.table c.requires.kind c.kind.ensures.dimension
+    c.requires.axes c.requires.edges)))
 
 pub returns-clause-vertices : goal.returns-clause-vertices
 returns-clause-vertices g c =
     subst (λ (m : Mesh). All (All (λ n. n < length m.vertices)) m.simplices) (sym (returns-clause-mesh g c))
-        (placed_mesh-vertices g.C.Cell.KIND c.args.grid.now c.args.iso c.args.table.now
-             (fits_grid g.C.Cell.KIND g.row.D c.args.grid.now c.args.table.now c.kind.ensures.table c.requires.kind c.kind.ensures.dimension
-                  c.requires.axes c.requires.edges))
+    (placed_mesh-vertices g.C.Cell.KIND c.args.grid.now c.args.iso c.args.table.now
+    (fits_grid g.C.Cell.KIND g.row.D c.args.grid.now c.args.table.now c.kind.ensures.table c.requires.kind c.kind.ensures.dimension
+    c.requires.axes c.requires.edges))

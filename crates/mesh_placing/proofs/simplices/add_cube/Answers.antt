@@ -26,24 +26,24 @@ add_cell-requires g c =
     let axes : length c.args.grid.now.sizes ≡ g.row.D = c.requires.axes in
     let has : HasDimension g.C.Cell.KIND (length c.args.grid.now.sizes) = subst (HasDimension g.C.Cell.KIND) (sym axes) g.met.C.Cell.has_dimension in
     let per : g.C.Split.PER_CUBE ≡ cells_per_cube g.C.Cell.KIND (length c.args.grid.now.sizes) =
-        g.met.C.Split.counted ∙ ap (cells_per_cube g.C.Cell.KIND) (sym axes) in
+    g.met.C.Split.counted ∙ ap (cells_per_cube g.C.Cell.KIND) (sym axes) in
     let cell : ℕ = c.args.place.number * g.C.Split.PER_CUBE + c.loop-rank.rank in
     let inside : c.args.place.number * g.C.Split.PER_CUBE + g.C.Split.PER_CUBE ≤ cell_count g.C.Cell.KIND c.args.grid.now.sizes =
     subst (λ (n : ℕ). c.args.place.number * n + n ≤ cell_count g.C.Cell.KIND c.args.grid.now.sizes) (sym per)
-        (cube_inside g.C.Cell.KIND c.args.grid.now.sizes c.args.place.number c.requires.cube) in
+    (cube_inside g.C.Cell.KIND c.args.grid.now.sizes c.args.place.number c.requires.cube) in
     let rank : c.loop-rank.rank < g.C.Split.PER_CUBE = omega (arith, c.loop-rank-test.true, c.PER_CUBE-rank-end.ensures) in
     let in_grid : cell < cell_count g.C.Cell.KIND c.args.grid.now.sizes = omega (arith, inside, rank) in
     let label : c.label-label.result < label_count g.C.Cell.KIND g.row.D =
-        subst (λ (n : ℕ). c.label-label.result < 2 ^ n) g.met.C.Cell.corners c.label-label.ensures.few in
+    subst (λ (n : ℕ). c.label-label.result < 2 ^ n) g.met.C.Cell.corners c.label-label.ensures.few in
     let labelled : c.label-label.result ≡ label_of v cell = c.label-label.ensures.label c.args.grid.now I c.args.place.number axes c.read-cube.ensures.cube in
     let kept : Contains (cells v) cell =
-        subst (λ (xs : List ℕ). Contains xs cell) (sym (cells-all g.C.Cell.KIND c.args.grid.now I))
-            (contained_below (cell_count g.C.Cell.KIND c.args.grid.now.sizes) cell in_grid) in
+    subst (λ (xs : List ℕ). Contains xs cell) (sym (cells-all g.C.Cell.KIND c.args.grid.now I))
+    (contained_below (cell_count g.C.Cell.KIND c.args.grid.now.sizes) cell in_grid) in
     let by_label : ListsEdges g.C.Cell.KIND (length c.args.grid.now.sizes) c.args.grid.now.sizes (bipolar_edges v) cell c.label-label.result =
     subst (λ (n : ℕ). ListsEdges g.C.Cell.KIND (length c.args.grid.now.sizes) c.args.grid.now.sizes (bipolar_edges v) cell n) (sym labelled)
-        (lists_edges v has cell kept) in
+    (lists_edges v has cell kept) in
     let edges_are : bipolar_edges v ≡ c.args.edges.now =
-        ap (λ (z : ℤ). bipolar_edges (volume g.C.Cell.KIND c.args.grid.now z None)) iso ∙ sym c.requires.listed in
+    ap (λ (z : ℤ). bipolar_edges (volume g.C.Cell.KIND c.args.grid.now z None)) iso ∙ sym c.requires.listed in
     let by_edges : ListsEdges g.C.Cell.KIND (length c.args.grid.now.sizes) c.args.grid.now.sizes c.args.edges.now cell c.label-label.result =
     subst (λ (es : List Edge). ListsEdges g.C.Cell.KIND (length c.args.grid.now.sizes) c.args.grid.now.sizes es cell c.label-label.result) edges_are by_label in
     let by_axes : ListsEdges g.C.Cell.KIND g.row.D c.args.grid.now.sizes c.args.edges.now cell c.label-label.result =
@@ -58,13 +58,12 @@ add_cell-requires g c =
     } in
     let rule : rule_edges g.C.Cell.KIND g.row.D c.label-label.result (entry_of c.args.table.now c.label-label.result) ≡ true =
     subst
-        (λ (d : ℕ).
-             c.label-label.result < label_count g.C.Cell.KIND d
-                 → rule_edges g.C.Cell.KIND d c.label-label.result (entry_of c.args.table.now c.label-label.result) ≡ true)
-        axes (c.requires.fits.keeps_edges c.label-label.result) label in
-    (
+    (λ (d : ℕ).
+    c.label-label.result < label_count g.C.Cell.KIND d
+    → rule_edges g.C.Cell.KIND d c.label-label.result (entry_of c.args.table.now c.label-label.result) ≡ true)
+    axes (c.requires.fits.keeps_edges c.label-label.result) label in (
       omega (arith, few),
-      (omega arith, (omega arith, (omega (arith, few), (c.requires.fits.same_kind, (c.read-cube.ensures.few, (rank, (label, (rule, listed))))))))
+      (omega arith, (omega arith, (omega (arith, few), (c.requires.fits.same_kind, (c.read-cube.ensures.few, (rank, (label, (rule, listed)))))))),
     )
 
 pub loop-rank-preserved : goal.loop-rank-preserved
@@ -75,14 +74,14 @@ loop-rank-preserved g c =
     let first : ℕ = c.args.place.number * g.C.Split.PER_CUBE in
     let cell : ℕ = first + c.loop-rank.rank in
     let labelled : c.label-label.result ≡ label_of v cell =
-        c.label-label.ensures.label c.args.grid.now I c.args.place.number c.requires.axes c.read-cube.ensures.cube in
+    c.label-label.ensures.label c.args.grid.now I c.args.place.number c.requires.axes c.read-cube.ensures.cube in
     let placed : placed_tuples g.C.Cell.KIND c.args.grid.now.sizes c.args.edges.now cell (entry_of c.args.table.now c.label-label.result) ≡ f cell =
     ap (λ (n : ℕ). placed_tuples g.C.Cell.KIND c.args.grid.now.sizes c.args.edges.now cell (entry_of c.args.table.now n)) labelled in
     let added : c.add_cell.new.simplices.items ≡ c.loop-rank.simplices.items ++ f cell =
     c.in_ok-add_cell.ensures c.args.grid.now I c.args.place.number c.requires.axes c.read-cube.ensures.cube
-        ∙ ap (λ (ws : List (List ℕ)). c.loop-rank.simplices.items ++ ws) placed in
+    ∙ ap (λ (ws : List (List ℕ)). c.loop-rank.simplices.items ++ ws) placed in
     flat_map-range_more f first c.loop-rank.rank c.args.simplices.now.items c.loop-rank.simplices.items c.add_cell.new.simplices.items
-        c.loop-rank.invariant added
+    c.loop-rank.invariant added
 
 pub returns : goal.returns
 returns g c =
@@ -90,20 +89,20 @@ returns g c =
     let all : c.loop-rank.rank ≡ g.C.Split.PER_CUBE = omega (arith, c.loop-rank-test.false, c.loop-rank.auto.rank-end, c.PER_CUBE-rank-end.ensures) in
     c.loop-rank.invariant
     ∙ ap
-        (λ (z : ℤ).
-             c.args.simplices.now.items
-                 ++ flat_map (cell_simplices (volume g.C.Cell.KIND c.args.grid.now z None) c.args.table.now c.args.edges.now)
-                       (range_with_len (c.args.place.number * g.C.Split.PER_CUBE) c.loop-rank.rank))
-        iso
+    (λ (z : ℤ).
+    c.args.simplices.now.items
+    ++ flat_map (cell_simplices (volume g.C.Cell.KIND c.args.grid.now z None) c.args.table.now c.args.edges.now)
+    (range_with_len (c.args.place.number * g.C.Split.PER_CUBE) c.loop-rank.rank))
+    iso
     ∙ ap
-        (λ (n : ℕ).
-             c.args.simplices.now.items
-                 ++ flat_map (cell_simplices (volume g.C.Cell.KIND c.args.grid.now c.args.iso None) c.args.table.now c.args.edges.now)
-                       (range_with_len (c.args.place.number * g.C.Split.PER_CUBE) n))
-        all
+    (λ (n : ℕ).
+    c.args.simplices.now.items
+    ++ flat_map (cell_simplices (volume g.C.Cell.KIND c.args.grid.now c.args.iso None) c.args.table.now c.args.edges.now)
+    (range_with_len (c.args.place.number * g.C.Split.PER_CUBE) n))
+    all
     ∙ ap
-        (λ (n : ℕ).
-             c.args.simplices.now.items
-                 ++ flat_map (cell_simplices (volume g.C.Cell.KIND c.args.grid.now c.args.iso None) c.args.table.now c.args.edges.now)
-                       (range_with_len (c.args.place.number * n) n))
-        g.met.C.Split.counted
+    (λ (n : ℕ).
+    c.args.simplices.now.items
+    ++ flat_map (cell_simplices (volume g.C.Cell.KIND c.args.grid.now c.args.iso None) c.args.table.now c.args.edges.now)
+    (range_with_len (c.args.place.number * n) n))
+    g.met.C.Split.counted

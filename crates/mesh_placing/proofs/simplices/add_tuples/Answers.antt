@@ -9,11 +9,11 @@ loop-tuple-preserved g c =
     let f : List ℕ → List ℕ = placed_tuple c.args.odd (λ e. slice_index c.args.places.now e) in
     let ok : is_ok c.push.result ≡ true = search rules in
     let pushed : c.push.new.self.items ≡ c.loop-tuple.simplices.items ++ c.placed_tuple.result ∷ [] =
-        c.push.ensures.items ∙ ap (λ b. if b then c.loop-tuple.simplices.items ++ c.placed_tuple.result ∷ [] else c.loop-tuple.simplices.items) ok in
+    c.push.ensures.items ∙ ap (λ b. if b then c.loop-tuple.simplices.items ++ c.placed_tuple.result ∷ [] else c.loop-tuple.simplices.items) ok in
     let item : c.placed_tuple.result ≡ f (get_or c.args.tuples.now c.loop-tuple.tuple-index c.tuple-item.result) =
-        c.placed_tuple.ensures ∙ ap f c.tuple-item.is in
+    c.placed_tuple.ensures ∙ ap f c.tuple-item.is in
     let next :
-        c.push.new.self.items ≡ c.loop-tuple.simplices.items ++ f (get_or c.args.tuples.now c.loop-tuple.tuple-index c.tuple-item.result) ∷ [] =
-        pushed ∙ ap (λ (x : List ℕ). c.loop-tuple.simplices.items ++ x ∷ []) item in
+    c.push.new.self.items ≡ c.loop-tuple.simplices.items ++ f (get_or c.args.tuples.now c.loop-tuple.tuple-index c.tuple-item.result) ∷ [] =
+    pushed ∙ ap (λ (x : List ℕ). c.loop-tuple.simplices.items ++ x ∷ []) item in
     map-take_more f c.args.tuples.now c.loop-tuple.tuple-index c.tuple-item.result c.args.simplices.now.items c.loop-tuple.simplices.items c.push.new.self.items
     c.loop-tuple-test.true c.loop-tuple.invariant next

@@ -9,8 +9,8 @@ use Rattle.mesh_placing.proofs.simplices.all_simplices.Given as goal
 abbrev pub invariant-loop-place : goal.invariant-loop-place
 invariant-loop-place g l =
     l.simplices.items
-        ≡ flat_map
-              (λ cube.
-                   flat_map (cell_simplices (volume g.C.Cell.KIND l.grid l.iso None) l.table l.edges)
-                       (cube_cells g.C.Cell.KIND (length l.grid.sizes) cube))
-              (take l.place-index (mixed l.grid l.iso))
+    ≡ flat_map
+    (λ cube.
+    flat_map (cell_simplices (volume g.C.Cell.KIND l.grid l.iso None) l.table l.edges)
+    (cube_cells g.C.Cell.KIND (length l.grid.sizes) cube))
+    (take l.place-index (mixed l.grid l.iso))

@@ -17,15 +17,15 @@ loop-place-preserved c =
     let next : c.args.first + c.loop-place.place + 1 ≡ c.args.first + (c.loop-place.place + 1) = omega arith in
     let cube : CubePlace = record { number = c.args.number + c.loop-place.place; sample = c.args.first + c.loop-place.place } in
     let stands : cube ≡ place_in_row c.args.first c.args.number (c.args.number + c.loop-place.place) =
-        ap (λ (s : ℕ). place_at (c.args.number + c.loop-place.place) s) at in
+    ap (λ (s : ℕ). place_at (c.args.number + c.loop-place.place) s) at in
     record {
       cubes =
           one_more (place_in_row c.args.first c.args.number)
-              (λ k. is_mixed_from iso c.args.samples.now c.args.steps.now (c.args.first + (k - c.args.number))) c.args.cubes.now.items
-              c.loop-place.cubes.items c.push_if.new.cubes.items cube c.args.number c.loop-place.place c.are_mixed.result
+          (λ k. is_mixed_from iso c.args.samples.now c.args.steps.now (c.args.first + (k - c.args.number))) c.args.cubes.now.items
+          c.loop-place.cubes.items c.push_if.new.cubes.items cube c.args.number c.loop-place.place c.are_mixed.result
           c.loop-place.invariant.cubes
           (by_signs iso c.args.samples.now c.args.steps.now (c.args.first + c.loop-place.place) (c.args.first + c.loop-place.place + 1)
-              c.loop-place.near.above c.loop-place.near.below c.face_signs-far.result.above c.face_signs-far.result.below c.are_mixed.result (omega arith)
+          c.loop-place.near.above c.loop-place.near.below c.face_signs-far.result.above c.face_signs-far.result.below c.are_mixed.result (omega arith)
           c.loop-place.invariant.above c.loop-place.invariant.below c.face_signs-far.ensures.above c.face_signs-far.ensures.below c.are_mixed.ensures
           ∙ ap (λ (n : ℕ). is_mixed_from iso c.args.samples.now c.args.steps.now n) at)
           stands c.in_ok-push_if.ensures;

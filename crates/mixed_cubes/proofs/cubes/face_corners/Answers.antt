@@ -18,12 +18,11 @@ few n m l p q h a whole b =
 pub overflow_mul-steps : goal.overflow_mul-steps
 overflow_mul-steps c =
     let p = parts c.args.size c.args.others.now c.requires.sized in
-    omega
-        (
-          arith,
-          few c.args.size c.corner_number.result (length c.args.others.now) (product c.args.others.now) (product (c.args.size ∷ c.args.others.now))
-              c.corner_number.ensures.below c.requires.axes p.whole c.requires.few
-        )
+    omega (
+      arith,
+      few c.args.size c.corner_number.result (length c.args.others.now) (product c.args.others.now) (product (c.args.size ∷ c.args.others.now))
+          c.corner_number.ensures.below c.requires.axes p.whole c.requires.few,
+    )
 
 pub loop-corner-preserved : goal.loop-corner-preserved
 loop-corner-preserved c = (

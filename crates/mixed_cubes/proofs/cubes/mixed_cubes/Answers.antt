@@ -11,6 +11,6 @@ mixed_rows-requires-clause-sized c =
     let two : 2 ≤ length (take c.grid.inside.dims c.grid.inside.sizes) = subst (λ (xs : List ℕ). 2 ≤ length xs) (sym seen) c.requires.regular.two_axes in
     let are : take c.grid.inside.dims c.grid.inside.sizes ≡ slice_index c.grid.inside.sizes 0 ∷ take (c.grid.inside.dims - 1) (drop 1 c.grid.inside.sizes) =
     first_and_others c.grid.inside.sizes c.grid.inside.dims (omega (arith, two, length-take c.grid.inside.dims c.grid.inside.sizes))
-        (omega (arith, two, length-take c.grid.inside.dims c.grid.inside.sizes)) in
+    (omega (arith, two, length-take c.grid.inside.dims c.grid.inside.sizes)) in
     subst (λ (xs : List ℕ). All (λ n. 1 ≤ n) xs) are
-        (subst (λ (xs : List ℕ). All (λ n. 1 ≤ n) xs) (sym seen) (at_least_one c.args.grid.now.sizes c.requires.regular.sized))
+    (subst (λ (xs : List ℕ). All (λ n. 1 ≤ n) xs) (sym seen) (at_least_one c.args.grid.now.sizes c.requires.regular.sized))

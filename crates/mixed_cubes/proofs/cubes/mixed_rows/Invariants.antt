@@ -8,5 +8,5 @@ use Rattle.mixed_cubes.proofs.cubes.mixed_rows.Given as goal
 abbrev pub invariant-loop-row : goal.invariant-loop-row
 invariant-loop-row l =
     l.cubes.items
-        ≡ map (place_of (l.size ∷ l.others))
-              (filter (is_mixed (record { sizes = l.size ∷ l.others; samples = l.samples }) l.iso) (numbers (l.row * l.span)))
+    ≡ map (place_of (l.size ∷ l.others))
+    (filter (is_mixed (record { sizes = l.size ∷ l.others; samples = l.samples }) l.iso) (numbers (l.row * l.span)))

@@ -12,15 +12,15 @@ cube_count-requires t c =
 pub overflow_mul-result : goal.overflow_mul-result
 overflow_mul-result t c =
     let few : (slice_index c.args.sizes.now 0 - 1) * c.cube_count.result ≤ slice_index c.args.sizes.now 0 * product (rest c.args.sizes.now) =
-        cubes_below (slice_index c.args.sizes.now 0) c.cube_count.result (product (rest c.args.sizes.now)) c.cube_count.ensures.below in
+    cubes_below (slice_index c.args.sizes.now 0) c.cube_count.result (product (rest c.args.sizes.now)) c.cube_count.ensures.below in
     let whole : product c.args.sizes.now ≡ slice_index c.args.sizes.now 0 * product (rest c.args.sizes.now) =
-        product_is c.args.sizes.now c.in-len1-up.len_at_least in
+    product_is c.args.sizes.now c.in-len1-up.len_at_least in
     omega (arith, few, whole, c.requires.few)
 
 pub returns-in-len1-up-clause-below : goal.returns-in-len1-up-clause-below
 returns-in-len1-up-clause-below t c =
     let few : (slice_index c.args.sizes.now 0 - 1) * c.cube_count.result ≤ slice_index c.args.sizes.now 0 * product (rest c.args.sizes.now) =
-        cubes_below (slice_index c.args.sizes.now 0) c.cube_count.result (product (rest c.args.sizes.now)) c.cube_count.ensures.below in
+    cubes_below (slice_index c.args.sizes.now 0) c.cube_count.result (product (rest c.args.sizes.now)) c.cube_count.ensures.below in
     let whole : product c.args.sizes.now ≡ slice_index c.args.sizes.now 0 * product (rest c.args.sizes.now) =
-        product_is c.args.sizes.now c.in-len1-up.len_at_least in
+    product_is c.args.sizes.now c.in-len1-up.len_at_least in
     omega (arith, few, whole)

@@ -9,7 +9,7 @@ pub first_sample-requires : goal.first_sample-requires
 first_sample-requires t c =
     let p : Parts (slice_index c.args.sizes.now 0) (rest c.args.sizes.now) = parts_of c.args.sizes.now c.in-len1-up.len_at_least c.requires.sized in
     let o : OneAxis (slice_index c.args.sizes.now 0) (rest c.args.sizes.now) c.args.cube =
-        one_axis c.args.sizes.now c.args.cube c.in-len1-up.len_at_least c.requires.inside in
+    one_axis c.args.sizes.now c.args.cube c.in-len1-up.len_at_least c.requires.inside in
     (search rules, (o.inside, (p.sized, omega (arith, p.below, p.whole, product_is c.args.sizes.now c.in-len1-up.len_at_least, c.requires.few))))
 
 below : (n cube m p : ℕ) → 0 < n - 1 → m < p → cube % (n - 1) + n * m < n * p
@@ -18,20 +18,20 @@ below n cube m p some h = let less : cube % (n - 1) < n - 1 = omega (arith, some
 pub overflow_mul-result : goal.overflow_mul-result
 overflow_mul-result t c =
     let o : OneAxis (slice_index c.args.sizes.now 0) (rest c.args.sizes.now) c.args.cube =
-        one_axis c.args.sizes.now c.args.cube c.in-len1-up.len_at_least c.requires.inside in
+    one_axis c.args.sizes.now c.args.cube c.in-len1-up.len_at_least c.requires.inside in
     let few = below (slice_index c.args.sizes.now 0) c.args.cube c.first_sample.result (product (rest c.args.sizes.now)) o.span c.first_sample.ensures.below in
     omega (arith, few, product_is c.args.sizes.now c.in-len1-up.len_at_least, c.requires.few)
 
 pub overflow_add-result : goal.overflow_add-result
 overflow_add-result t c =
     let o : OneAxis (slice_index c.args.sizes.now 0) (rest c.args.sizes.now) c.args.cube =
-        one_axis c.args.sizes.now c.args.cube c.in-len1-up.len_at_least c.requires.inside in
+    one_axis c.args.sizes.now c.args.cube c.in-len1-up.len_at_least c.requires.inside in
     let few = below (slice_index c.args.sizes.now 0) c.args.cube c.first_sample.result (product (rest c.args.sizes.now)) o.span c.first_sample.ensures.below in
     omega (arith, few, product_is c.args.sizes.now c.in-len1-up.len_at_least, c.requires.few)
 
 pub returns-in-len1-up-clause-below : goal.returns-in-len1-up-clause-below
 returns-in-len1-up-clause-below t c =
     let o : OneAxis (slice_index c.args.sizes.now 0) (rest c.args.sizes.now) c.args.cube =
-        one_axis c.args.sizes.now c.args.cube c.in-len1-up.len_at_least c.requires.inside in
+    one_axis c.args.sizes.now c.args.cube c.in-len1-up.len_at_least c.requires.inside in
     let few = below (slice_index c.args.sizes.now 0) c.args.cube c.first_sample.result (product (rest c.args.sizes.now)) o.span c.first_sample.ensures.below in
     omega (arith, few, product_is c.args.sizes.now c.in-len1-up.len_at_least)

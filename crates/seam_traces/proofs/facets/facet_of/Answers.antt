@@ -16,7 +16,7 @@ overflow_shl-patterns g c =
     let corners : g.C.Cell.CORNERS ≡ corner_count g.C.Cell.KIND g.row.D = law.corners in
     let wide : c.len-patterns.result ≡ length c.in_ok-corners.corners.items = omega (arith, c.len-patterns.ensures) in
     few_patterns c.CORNERS.result (corner_count g.C.Cell.KIND g.row.D) c.len-patterns.result (is_set c.facet_mask.result)
-        c.in_ok-corners.corners.items c.in_ok-corners.ensures
+    c.in_ok-corners.corners.items c.in_ok-corners.ensures
     (c.CORNERS.ensures ∙ corners) (few_corners g.C.Cell.KIND g.row.D law.is_dimension law.has_dimension) wide
 
 pub returns-clause-is_facet : goal.returns-clause-is_facet
@@ -31,7 +31,7 @@ returns-clause-is_facet g c =
     let wide : c.len-patterns.result ≡ length c.in_ok-corners.corners.items = omega (arith, c.len-patterns.ensures) in
     let few : c.len-patterns.result < 64 =
     few_patterns c.CORNERS.result (corner_count g.C.Cell.KIND g.row.D) c.len-patterns.result (is_set c.facet_mask.result)
-        c.in_ok-corners.corners.items c.in_ok-corners.ensures
+    c.in_ok-corners.corners.items c.in_ok-corners.ensures
     count (few_corners g.C.Cell.KIND g.row.D law.is_dimension law.has_dimension) wide in
     let patterns : 1 * 2 ^ c.len-patterns.result % 2 ^ 64 ≡ 2 ^ length (facet_corners g.C.Cell.KIND g.row.D f) =
     shifted_one c.len-patterns.result few ∙ ap (λ (n : ℕ). 2 ^ n) (wide ∙ ap (λ (l : List ℕ). length l) corners) in
@@ -39,8 +39,8 @@ returns-clause-is_facet g c =
       corners = corners;
       edges =
           c.in_ok-edges.ensures
-              ∙ members_are c.facet_edges-edge_set.result (edge_in_facet g.C.Cell.KIND g.row.D f) c.EDGES.result (edge_count g.C.Cell.KIND g.row.D)
-                    edge_number
+          ∙ members_are c.facet_edges-edge_set.result (edge_in_facet g.C.Cell.KIND g.row.D f) c.EDGES.result (edge_count g.C.Cell.KIND g.row.D)
+          edge_number
           (λ k h. c.facet_edges-edge_set.ensures.members k (subst (λ n. k < n) c.EDGES.ensures h));
       set = c.facet_edges-edge_set.ensures.set;
       seen = c.in_ok-unseen.ensures.len ∙ patterns;

@@ -18,6 +18,6 @@ loop-facet-preserved g c =
           (subst (λ k. IsFacetOf g.C.Cell.KIND g.row.D k y) (sym n) c.in_ok-facet_of.ensures.is_facet) f x (omega arith);
       never =
           λ k d less.
-              each_more (λ _ z. (p : ℕ) → seen_at z p ≡ Never) xs ys y e (λ f x h. c.loop-facet.invariant.never f x h) c.in_ok-facet_of.ensures.never
-                  k d (let w = length_more xs ys y e in omega arith);
+          each_more (λ _ z. (p : ℕ) → seen_at z p ≡ Never) xs ys y e (λ f x h. c.loop-facet.invariant.never f x h) c.in_ok-facet_of.ensures.never
+          k d (let w = length_more xs ys y e in omega arith);
     }

@@ -22,8 +22,8 @@ pub place_at-requires : goal.place_at-requires
 place_at-requires g c =
     let long : length c.args.steps.now.spans ≡ g.row.D = search rules in
     let are : sizes_of c.args.steps.now.spans ≡ c.args.grid.now.sizes =
-        sizes_are c.args.grid.now.sizes c.args.steps.now.spans (long ∙ sym c.requires.axes)
-            (at_least_one c.args.grid.now.sizes c.requires.regular.sized) c.requires.steps.spans in
+    sizes_are c.args.grid.now.sizes c.args.steps.now.spans (long ∙ sym c.requires.axes)
+    (at_least_one c.args.grid.now.sizes c.requires.regular.sized) c.requires.steps.spans in
     search (rules, subst (λ (sizes : List ℕ). c.args.cube.number < cube_count sizes) (sym are) c.requires.number)
 
 pub point_signs-requires-clause-inside : goal.point_signs-requires-clause-inside
@@ -32,26 +32,26 @@ point_signs-requires-clause-inside g c =
     let long : length c.args.steps.now.corners ≡ 16 = search rules in
     let four : g.row.D ≤ 4 = omega (arith, c.requires.axes, c.requires.regular.four_axes) in
     let are : corners ≡ map (corner_number c.args.grid.now.sizes) (numbers (2 ^ length c.args.grid.now.sizes)) =
-        steps_are c.args.grid.now.sizes c.args.steps.now.corners g.row.D c.requires.axes four long c.requires.steps.corners in
+    steps_are c.args.grid.now.sizes c.args.steps.now.corners g.row.D c.requires.axes four long c.requires.steps.corners in
     let all : c.as_slice.result.now ≡ c.args.grid.now.samples = c.as_slice.ensures.value ∙ ap (λ (grid : Grid). grid.samples) c.grid.view_is in
     let at : c.args.cube.sample ≡ sample_number c.args.grid.now.sizes (cube_at c.args.grid.now.sizes c.args.cube.number) =
-        ap (λ (p : CubePlace). p.sample) c.requires.place in
+    ap (λ (p : CubePlace). p.sample) c.requires.place in
     subst (λ (samples : List ℤ). (k : ℕ) → k < length corners → c.args.cube.sample + slice_index corners k < length samples) (sym all)
     (steps_inside c.args.grid.now c.args.cube.number c.args.cube.sample corners (at_least_one c.args.grid.now.sizes c.requires.regular.sized)
-         c.requires.regular.all_there c.requires.number at are)
+    c.requires.regular.all_there c.requires.number at are)
 
 pub returns-clause-cube : goal.returns-clause-cube
 returns-clause-cube g c =
     let sizes : List ℕ = c.args.grid.now.sizes in
     let spans : length c.args.steps.now.spans ≡ g.row.D = search rules in
     let same : sizes_of c.args.steps.now.spans ≡ sizes =
-        sizes_are sizes c.args.steps.now.spans (spans ∙ sym c.requires.axes) (at_least_one sizes c.requires.regular.sized) c.requires.steps.spans in
+    sizes_are sizes c.args.steps.now.spans (spans ∙ sym c.requires.axes) (at_least_one sizes c.requires.regular.sized) c.requires.steps.spans in
     let stands : c.place_at.result ≡ cube_at sizes c.args.cube.number = c.place_at.ensures ∙ ap (λ (ns : List ℕ). cube_at ns c.args.cube.number) same in
     let corners : List ℕ = take (1 * 2 ^ g.row.D % 18446744073709551616) c.args.steps.now.corners in
     let long : length c.args.steps.now.corners ≡ 16 = search rules in
     let four : g.row.D ≤ 4 = omega (arith, c.requires.axes, c.requires.regular.four_axes) in
     let are : corners ≡ map (corner_number sizes) (numbers (2 ^ length sizes)) =
-        steps_are sizes c.args.steps.now.corners g.row.D c.requires.axes four long c.requires.steps.corners in
+    steps_are sizes c.args.steps.now.corners g.row.D c.requires.axes four long c.requires.steps.corners in
     let count : length corners ≡ 2 ^ length sizes = ap length are ∙ steps_long sizes in
     let all : c.as_slice.result.now ≡ c.args.grid.now.samples = c.as_slice.ensures.value ∙ ap (λ (grid : Grid). grid.samples) c.grid.view_is in
     let at : c.args.cube.sample ≡ sample_number sizes (cube_at sizes c.args.cube.number) = ap (λ (p : CubePlace). p.sample) c.requires.place in
@@ -66,7 +66,7 @@ returns-clause-cube g c =
           c.point_signs.ensures.centre (count ∙ ap (λ (n : ℕ). 2 ^ n) three)
           ∙ ap (λ (z : ℤ). is_positive z (total (face_samples c.as_slice.result.now corners c.args.cube.sample))) iso
           ∙ cube_centre c.args.grid.now c.args.iso c.args.cube.number c.args.cube.sample c.place_at.result corners c.as_slice.result.now all stands at
-              are three;
+          are three;
     }
 
 pub returns-clause-few : goal.returns-clause-few

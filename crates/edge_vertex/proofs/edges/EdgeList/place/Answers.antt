@@ -13,7 +13,7 @@ pub returns-in-Some : goal.returns-in-Some
 returns-in-Some g c =
     let E : Edge g.row.D → Bool = (eq-value (number g.row.D)).it c.args.edge.now in
     let at : position_or_len E c.self.inside.edges.keys ≡ place_in (edges_of c.self.inside.edges.keys) (edge_of c.args.edge.now) =
-        edge_place E c.args.edge.now c.self.inside.edges.keys (λ y h. search rules) (λ y h. search rules) in
+    edge_place E c.args.edge.now c.self.inside.edges.keys (λ y h. search rules) (λ y h. search rules) in
     let found = found_place (position_or_len E c.self.inside.edges.keys) (length c.self.inside.edges.keys) c.in-Some.place (sym c.in-Some.ensures.index) in
     rw (← c.self.view_is) (found.0 ∙ at, omega (arith, found.1, length-map c.self.inside.edges.keys (edge_of {D = g.row.D})))
 
@@ -21,8 +21,8 @@ pub returns-in-None : goal.returns-in-None
 returns-in-None g c =
     let E : Edge g.row.D → Bool = (eq-value (number g.row.D)).it c.args.edge.now in
     let at : position_or_len E c.self.inside.edges.keys ≡ place_in (edges_of c.self.inside.edges.keys) (edge_of c.args.edge.now) =
-        edge_place E c.args.edge.now c.self.inside.edges.keys (λ y h. search rules) (λ y h. search rules) in
+    edge_place E c.args.edge.now c.self.inside.edges.keys (λ y h. search rules) (λ y h. search rules) in
     let none =
-        no_place (position_or_len E c.self.inside.edges.keys) (length c.self.inside.edges.keys) (place_most E c.self.inside.edges.keys)
-            (sym c.in-None.ensures.index) in
+    no_place (position_or_len E c.self.inside.edges.keys) (length c.self.inside.edges.keys) (place_most E c.self.inside.edges.keys)
+    (sym c.in-None.ensures.index) in
     rw (← c.self.view_is) (sym at ∙ none ∙ sym (length-map c.self.inside.edges.keys (edge_of {D = g.row.D})))

@@ -25,11 +25,11 @@ returns-then-not-are_across c =
     let kept = kept_at old p c.index-in-Alike.result.now in_traces c.index-in-Alike.ensures ∙ sym c.deref-in-Alike.ensures.value in
     takes_other c.args.label c.args.tallies.now old p c.index.result.now c.requires less is c.index.ensures c.in-Alike.is
     (λ e.
-         false≢true
-             (sym c.if-not-are_across.true
-                  ∙ c.are_across.ensures.1
-                        (sym kept ∙ e ∙ ap (λ (l : List ℕ). tallies_in l c.args.tallies.now) (sym c.deref-in-Alike-2.ensures.value)
-                             ∙ sym (across_same (tallies_in c.deref-in-Alike-2.result.now c.args.tallies.now)))))
+    false≢true
+    (sym c.if-not-are_across.true
+    ∙ c.are_across.ensures.1
+    (sym kept ∙ e ∙ ap (λ (l : List ℕ). tallies_in l c.args.tallies.now) (sym c.deref-in-Alike-2.ensures.value)
+    ∙ sym (across_same (tallies_in c.deref-in-Alike-2.result.now c.args.tallies.now)))))
 
 pub returns-else-not-are_across : goal.returns-else-not-are_across
 returns-else-not-are_across c =
@@ -41,4 +41,4 @@ returns-else-not-are_across c =
     let kept = kept_at old p c.index-in-Alike.result.now in_traces c.index-in-Alike.ensures ∙ sym c.deref-in-Alike.ensures.value in
     takes_same c.args.label c.args.tallies.now old p c.index.result.now c.requires less is c.index.ensures c.in-Alike.is
     (kept ∙ c.are_across.ensures.0 c.if-not-are_across.false ∙ across_same (tallies_in c.deref-in-Alike-2.result.now c.args.tallies.now)
-         ∙ ap (λ (l : List ℕ). tallies_in l c.args.tallies.now) c.deref-in-Alike-2.ensures.value)
+    ∙ ap (λ (l : List ℕ). tallies_in l c.args.tallies.now) c.deref-in-Alike-2.ensures.value)

@@ -34,18 +34,18 @@ loop-label-preserved g c =
     let tallies = c.tally.new.tallies.items in
     let takes : EachTakesLabel n tallies old new =
     subst (λ (ts : List FaceTally). EachTakesLabel n ts old new) c.deref.ensures.value
-        (subst (λ (xs : List Facet). EachTakesLabel n c.deref.result.now xs new) c.deref_mut.ensures.value c.in_ok-add_label.ensures) in
+    (subst (λ (xs : List Facet). EachTakesLabel n c.deref.result.now xs new) c.deref_mut.ensures.value c.in_ok-add_label.ensures) in
     let are : AreTallies g.row.D (entry_of t n) tallies = subst (λ ws. AreTallies g.row.D ws tallies) c.tuples.ensures.tuples c.in_ok-tally.ensures in
     let e =
-        with_items_is c.loop-label.facets new
-            (takes.count ∙ ap (λ (xs : List Facet). length xs) (sym c.deref_mut.ensures.value) ∙ c.deref_mut.ensures.len) in
+    with_items_is c.loop-label.facets new
+    (takes.count ∙ ap (λ (xs : List Facet). length xs) (sym c.deref_mut.ensures.value) ∙ c.deref_mut.ensures.len) in
     record {
       facets =
           subst (λ xs. AreFacetsOf g.C.Cell.KIND g.row.D xs) (sym e)
-              (facets_taken g.C.Cell.KIND g.row.D n tallies old new c.loop-label.invariant.facets takes);
+          (facets_taken g.C.Cell.KIND g.row.D n tallies old new c.loop-label.invariant.facets takes);
       labels = subst (λ xs. TellLabels t (n + 1) xs) (sym e)
           (tells_more g.C.Cell.KIND g.row.D t n tallies old new c.requires c.labels-label-end.ensures.dimension law.is_dimension law.has_dimension
-               c.loop-label.invariant.facets are takes c.loop-label.invariant.labels);
+          c.loop-label.invariant.facets are takes c.loop-label.invariant.labels);
     }
 
 pub returns : goal.returns
@@ -56,5 +56,5 @@ returns g c =
       dimension_is = c.labels-label-end.ensures.dimension;
       labels =
           subst (λ n. TellLabels c.args.table.now n c.loop-label.facets.items)
-              (last ∙ c.labels-label-end.ensures.labels ∙ ap (λ (k : Kind). label_count k g.row.D) c.requires) c.loop-label.invariant.labels;
+          (last ∙ c.labels-label-end.ensures.labels ∙ ap (λ (k : Kind). label_count k g.row.D) c.requires) c.loop-label.invariant.labels;
     }

@@ -22,12 +22,12 @@ returns-then-corresponds g c =
     seam_is (seam_at g.C.Cell.KIND g.row.D c.args.number) r.facet r.other r.same c.seam-seam.ensures.facet c.seam-seam.ensures.other c.seam-seam.ensures.same in
     let seam : IsSeam g.C.Cell.KIND g.row.D facets (made_seam r.facet r.other r.same) x y =
     seam_read g.C.Cell.KIND g.row.D c.args.number facets r.facet r.other r.same x y law.is_dimension law.has_dimension law.meets_corners
-        law.keeps_edges less s one two
+    law.keeps_edges less s one two
     c.facet-facet.ensures.facet c.facet-other.ensures.facet c.facet-facet.ensures.read c.facet-other.ensures.read in
     λ t tell are.
     let rule =
-        seam_law g.C.Cell.KIND g.row.D t facets c.args.label c.args.tallies.now (made_seam r.facet r.other r.same) x y law.is_dimension
-            law.has_dimension tell seam are in
+    seam_law g.C.Cell.KIND g.row.D t facets c.args.label c.args.tallies.now (made_seam r.facet r.other r.same) x y law.is_dimension
+    law.has_dimension tell seam are in
     same_tests c.corresponds-then-corresponds.result (keeps_seam t c.args.label (made_seam r.facet r.other r.same))
     (λ h. rule.0 (c.corresponds.ensures.0 c.if-corresponds.true, c.corresponds-then-corresponds.ensures.0 h))
     (λ h. c.corresponds-then-corresponds.ensures.1 (rule.1 h).1)
@@ -47,12 +47,12 @@ returns-else-corresponds g c =
     seam_is (seam_at g.C.Cell.KIND g.row.D c.args.number) r.facet r.other r.same c.seam-seam.ensures.facet c.seam-seam.ensures.other c.seam-seam.ensures.same in
     let seam : IsSeam g.C.Cell.KIND g.row.D facets (made_seam r.facet r.other r.same) x y =
     seam_read g.C.Cell.KIND g.row.D c.args.number facets r.facet r.other r.same x y law.is_dimension law.has_dimension law.meets_corners
-        law.keeps_edges less s one two
+    law.keeps_edges less s one two
     c.facet-facet.ensures.facet c.facet-other.ensures.facet c.facet-facet.ensures.read c.facet-other.ensures.read in
     λ t tell are.
     let rule =
-        seam_law g.C.Cell.KIND g.row.D t facets c.args.label c.args.tallies.now (made_seam r.facet r.other r.same) x y law.is_dimension
-            law.has_dimension tell seam are in
+    seam_law g.C.Cell.KIND g.row.D t facets c.args.label c.args.tallies.now (made_seam r.facet r.other r.same) x y law.is_dimension
+    law.has_dimension tell seam are in
     same_tests c.corresponds.result (keeps_seam t c.args.label (made_seam r.facet r.other r.same))
     (λ h. absurd (false≢true (sym c.if-corresponds.false ∙ h)))
     (λ h. c.corresponds.ensures.1 (rule.1 h).0)
