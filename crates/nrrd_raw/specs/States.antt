@@ -56,6 +56,22 @@ AddsLine s next number content = (texts : List (List ℕ)) (text : List ℕ) →
 abbrev pub HasCause : Stated → ℕ → lines.Content → GridFault → Type 0
 HasCause s number content fault = (texts : List (List ℕ)) → States s texts → cause_of fault ≡ content_fault texts number content
 
+-- a line with a field of this name and value adds what it states, and has no cause
+abbrev pub AddsNamed : Stated → Stated → ℕ → List ℕ → List ℕ → Type 0
+AddsNamed s next number name value = AddsLine s next number (lines.named_field name value)
+
+-- a line with a field of this name and value has this cause
+abbrev pub HasNamedCause : Stated → ℕ → List ℕ → List ℕ → GridFault → Type 0
+HasNamedCause s number name value fault = HasCause s number (lines.named_field name value) fault
+
+-- a line with this value of a field adds what it states, and has no cause
+abbrev pub AddsField : Stated → Stated → ℕ → Field → List ℕ → Type 0
+AddsField s next number field value = AddsNamed s next number (lines.field_name field) value
+
+-- a line with this value of a field has this cause
+abbrev pub HasFieldCause : Stated → ℕ → Field → List ℕ → GridFault → Type 0
+HasFieldCause s number field value fault = HasNamedCause s number (lines.field_name field) value fault
+
 -- the first cause of the header as a whole: a field is missing, or the sizes are not as many as the dimension
 abbrev pub whole_fault : List (List ℕ) → Option cause.GridFault
 whole_fault texts = lines.first_some (map (missing_fault texts) all_fields ++ count_fault texts ∷ [])

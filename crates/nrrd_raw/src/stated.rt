@@ -31,7 +31,7 @@ impl Stated {
     ghost use Rattle.iso_formats.specs.GridFile.{IsRegularHeader, SpellHeader, is_sound_line};
     ghost use Rattle.nrrd_raw.specs.GridFaultWords.{is_header_fault, blame_of};
     ghost use Rattle.nrrd_raw.specs.FaultCauses.{cause_of};
-    ghost use Rattle.nrrd_raw.specs.States.{States, AddsLine, HasCause, has_field, whole_fault};
+    ghost use Rattle.nrrd_raw.specs.States.{States, AddsLine, AddsNamed, AddsField, HasCause, HasNamedCause, HasFieldCause, has_field, whole_fault};
 
     /// Behind the first line nothing is stated.
     pub(crate) fn none() -> Stated
@@ -63,8 +63,8 @@ impl Stated {
     fn with_field(self, number: u32, name: &[u8], value: &[u8]) -> Result<Stated, GridFault>
         ensures causes { IfErr result (λ fault. IsTrue (is_header_fault fault)) }
         ensures form { IfErr result (λ fault. IsNone (blame_of fault)) }
-        ensures kept { IfOk result (λ next. AddsLine self next number (lines.named_field (str_to_ascii_lowercase name.now) value.now)) }
-        ensures cause { IfErr result (HasCause self number (lines.named_field (str_to_ascii_lowercase name.now) value.now)) }
+        ensures kept { IfOk result (λ next. AddsNamed self next number (str_to_ascii_lowercase name.now) value.now) }
+        ensures cause { IfErr result (HasNamedCause self number (str_to_ascii_lowercase name.now) value.now) }
     {
         match key_of(name) {
             Key::Skip => {
@@ -102,8 +102,8 @@ impl Stated {
         requires { has_field self field ≡ false }
         ensures causes { IfErr result (λ fault. IsTrue (is_header_fault fault)) }
         ensures form { IfErr result (λ fault. IsNone (blame_of fault)) }
-        ensures kept { IfOk result (λ next. AddsLine self next number (lines.named_field (lines.field_name field) value.now)) }
-        ensures cause { IfErr result (HasCause self number (lines.named_field (lines.field_name field) value.now)) }
+        ensures kept { IfOk result (λ next. AddsField self next number field value.now) }
+        ensures cause { IfErr result (HasFieldCause self number field value.now) }
     {
         match field {
             Field::SampleType => self.with_sample_type(number, value),
@@ -118,8 +118,8 @@ impl Stated {
         requires { is_some self.sample ≡ false }
         ensures causes { IfErr result (λ fault. IsTrue (is_header_fault fault)) }
         ensures form { IfErr result (λ fault. IsNone (blame_of fault)) }
-        ensures kept { IfOk result (λ next. AddsLine self next number (lines.named_field (lines.field_name field.SampleType) value.now)) }
-        ensures cause { IfErr result (HasCause self number (lines.named_field (lines.field_name field.SampleType) value.now)) }
+        ensures kept { IfOk result (λ next. AddsField self next number field.SampleType value.now) }
+        ensures cause { IfErr result (HasFieldCause self number field.SampleType value.now) }
     {
         let Some(sample) = sample_of(value) else {
             return Err(GridFault::SampleType(number));
@@ -137,8 +137,8 @@ impl Stated {
         requires { is_some self.dimension ≡ false }
         ensures causes { IfErr result (λ fault. IsTrue (is_header_fault fault)) }
         ensures form { IfErr result (λ fault. IsNone (blame_of fault)) }
-        ensures kept { IfOk result (λ next. AddsLine self next number (lines.named_field (lines.field_name field.Dimension) value.now)) }
-        ensures cause { IfErr result (HasCause self number (lines.named_field (lines.field_name field.Dimension) value.now)) }
+        ensures kept { IfOk result (λ next. AddsField self next number field.Dimension value.now) }
+        ensures cause { IfErr result (HasFieldCause self number field.Dimension value.now) }
     {
         let Some(dimension) = dimension_of(value) else {
             return Err(GridFault::Dimension(number));
@@ -156,8 +156,8 @@ impl Stated {
         requires { is_some self.sizes ≡ false }
         ensures causes { IfErr result (λ fault. IsTrue (is_header_fault fault)) }
         ensures form { IfErr result (λ fault. IsNone (blame_of fault)) }
-        ensures kept { IfOk result (λ next. AddsLine self next number (lines.named_field (lines.field_name field.Sizes) value.now)) }
-        ensures cause { IfErr result (HasCause self number (lines.named_field (lines.field_name field.Sizes) value.now)) }
+        ensures kept { IfOk result (λ next. AddsField self next number field.Sizes value.now) }
+        ensures cause { IfErr result (HasFieldCause self number field.Sizes value.now) }
     {
         let Some(sizes) = sizes_of(value) else {
             return Err(GridFault::Sizes(number));
@@ -175,8 +175,8 @@ impl Stated {
         requires { self.raw ≡ false }
         ensures causes { IfErr result (λ fault. IsTrue (is_header_fault fault)) }
         ensures form { IfErr result (λ fault. IsNone (blame_of fault)) }
-        ensures kept { IfOk result (λ next. AddsLine self next number (lines.named_field (lines.field_name field.Encoding) value.now)) }
-        ensures cause { IfErr result (HasCause self number (lines.named_field (lines.field_name field.Encoding) value.now)) }
+        ensures kept { IfOk result (λ next. AddsField self next number field.Encoding value.now) }
+        ensures cause { IfErr result (HasFieldCause self number field.Encoding value.now) }
     {
         if !is_raw(value) {
             return Err(GridFault::Encoding(number));
@@ -194,8 +194,8 @@ impl Stated {
         requires { is_some self.big ≡ false }
         ensures causes { IfErr result (λ fault. IsTrue (is_header_fault fault)) }
         ensures form { IfErr result (λ fault. IsNone (blame_of fault)) }
-        ensures kept { IfOk result (λ next. AddsLine self next number (lines.named_field (lines.field_name field.Endian) value.now)) }
-        ensures cause { IfErr result (HasCause self number (lines.named_field (lines.field_name field.Endian) value.now)) }
+        ensures kept { IfOk result (λ next. AddsField self next number field.Endian value.now) }
+        ensures cause { IfErr result (HasFieldCause self number field.Endian value.now) }
     {
         let Some(big) = big_endian_of(value) else {
             return Err(GridFault::Endian(number));
