@@ -23,6 +23,10 @@ pub record HasFront (front : List ℕ) (start : ℕ) : Type 0 where
   pub unbroken : has (drop start front) 10 ≡ false
   pub begins : (more : List ℕ) → begins_right (front ++ more) ≡ true
 
+-- it holds of the lines' texts, where the bytes are whole lines and the first one is right
+abbrev pub HoldsOfLines : List ℕ → (List (List ℕ) → Type 0) → Type 0
+HoldsOfLines bytes P = (texts : List (List ℕ)) → HasLines bytes texts [] → IsTrue (is_first_line (slice_index_or texts 0 [])) → P texts
+
 -- the front is a whole header
 pub record IsFront (front : List ℕ) : Type 0 where
   pub texts : List (List ℕ)

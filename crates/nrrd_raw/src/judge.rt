@@ -1,11 +1,11 @@
 //! Judging the lines of a header.
 
-ghost use Rattle.std.specs.Prelude.{◌≡◌, ◌<◌, ◌≤◌, [], List, ℕ, length, slice_index_or, IfErr, IfOk, IsTrue, IsNone};
-ghost use Rattle.iso_formats.specs.HeaderLines.{HasLines, is_first_line};
+ghost use Rattle.std.specs.Prelude.{◌≡◌, ◌<◌, ◌≤◌, length, IfErr, IfOk, IsTrue, IsNone};
 ghost use Rattle.iso_formats.specs.GridFile.{IsRegularHeader, SpellHeader};
 ghost use Rattle.iso_formats.specs.GridFaults.{lines_fault};
 ghost use Rattle.nrrd_raw.specs.FaultCauses.{cause_of};
 ghost use Rattle.nrrd_raw.specs.GridFaultWords.{is_header_fault, blame_of};
+ghost use Rattle.nrrd_raw.specs.HeaderFronts.{HoldsOfLines};
 
 use crate::faults::GridFault;
 use crate::headers::Header;
@@ -20,8 +20,8 @@ pub(crate) fn header_of(bytes: &[u8]) -> Result<Header, GridFault>
     ensures causes { IfErr result (λ fault. IsTrue (is_header_fault fault)) }
     ensures form { IfErr result (λ fault. IsNone (blame_of fault)) }
     ensures regular { IfOk result IsRegularHeader }
-    ensures spelled { IfOk result (λ header. (texts : List (List ℕ)) → HasLines bytes.now texts [] → IsTrue (is_first_line (slice_index_or texts 0 [])) → SpellHeader texts header) }
-    ensures cause { IfErr result (λ fault. (texts : List (List ℕ)) → HasLines bytes.now texts [] → IsTrue (is_first_line (slice_index_or texts 0 [])) → lines_fault texts ≡ cause_of fault) }
+    ensures spelled { IfOk result (λ header. HoldsOfLines bytes.now (λ texts. SpellHeader texts header)) }
+    ensures cause { IfErr result (λ fault. HoldsOfLines bytes.now (λ texts. lines_fault texts ≡ cause_of fault)) }
 {
     let mut stated = Stated::none();
     let mut number = 2u32;
