@@ -32,8 +32,8 @@ pub doubled_points : (d : ℕ) (p : List ℕ) → length p ≡ d
     → map (λ i. slice_index_or (map pos p) i (pos 0) +ℤ slice_index_or (map pos p) i (pos 0)) (numbers d) ≡ map (λ x. pos (2 * x)) p
 doubled_points d p l =
     sym
-        (fill_by_all (λ i. slice_index_or (map pos p) i (pos 0) +ℤ slice_index_or (map pos p) i (pos 0)) (map (λ x. pos (2 * x)) p) d (pos 0)
-             (length-map p (λ x. pos (2 * x)) ∙ l) at)
+    (fill_by_all (λ i. slice_index_or (map pos p) i (pos 0) +ℤ slice_index_or (map pos p) i (pos 0)) (map (λ x. pos (2 * x)) p) d (pos 0)
+    (length-map p (λ x. pos (2 * x)) ∙ l) at)
   where
     at : (k : ℕ) → k < d → slice_index_or (map (λ x. pos (2 * x)) p) k (pos 0) ≡ slice_index_or (map pos p) k (pos 0) +ℤ slice_index_or (map pos p) k (pos 0)
     at k h =

@@ -33,14 +33,14 @@ use Rattle.iso_model.specs.Dimensions.{IsDimension}
 points_wide : (d label : ℕ) → IsDimension d → All (λ p. length p ≡ d) (label_points Cube d label)
 points_wide d label is = All-append (λ p. length p ≡ d)
     (map (λ e. map pos (edge_midpoint Cube d e)) (label_edges Cube d label))
-        (map (λ k. map (λ x. pos (2 * x)) (corner_point Cube d k)) (label_corners Cube d label))
+    (map (λ k. map (λ x. pos (2 * x)) (corner_point Cube d k)) (label_corners Cube d label))
     (All-map (λ p. length p ≡ d) (λ e. map pos (edge_midpoint Cube d e)) (label_edges Cube d label)
     (All-weaker (λ e. e < edge_count Cube d) (λ e. length (map pos (edge_midpoint Cube d e)) ≡ d)
     (λ e h. length-map (edge_midpoint Cube d e) pos ∙ (midpoint_is_point Cube d is has_d e h).wide) (label_edges Cube d label) (edges_below Cube d label)))
     (All-map (λ p. length p ≡ d) (λ k. map (λ x. pos (2 * x)) (corner_point Cube d k)) (label_corners Cube d label)
     (All-weaker (λ k. k < corner_count Cube d) (λ k. length (map (λ x. pos (2 * x)) (corner_point Cube d k)) ≡ d)
     (λ k h. length-map (corner_point Cube d k) (λ x. pos (2 * x)) ∙ (corner_is_point Cube d is has_d k h).wide) (label_corners Cube d label)
-        (corners_below Cube d label)))
+    (corners_below Cube d label)))
   where
     has_d : HasDimension Cube d
     has_d = few_axes d is
@@ -65,7 +65,7 @@ carried_facet : (d : ℕ) (by : Move) (P Q : List (List ℤ)) (τ σ : ℕ → �
 carried_facet d by P Q τ σ m list e set f =
     ap (λ (xs : List ℕ). set_number (filter (λ i. is_set (set_number set) (slice_index xs i)) (numbers (length xs)))) e
     ∙ ap (λ (n : ℕ). set_number (filter (λ i. is_set (set_number set) (slice_index (map σ (numbers (length P))) i)) (numbers n)))
-        (length-map-range_with_len σ 0 (length P))
+    (length-map-range_with_len σ 0 (length P))
     ∙ ap set_number (filter-same (λ i. is_set (set_number set) (slice_index (map σ (numbers (length P))) i)) (λ i. has set (σ i)) (numbers (length P))
     (λ i c. let h = below_contained (length P) i c in
     ap (is_set (set_number set)) (at_place σ (length P) i 0 h) ∙ facet_bit d Q set (σ i) f (m.into i h)))
@@ -77,7 +77,7 @@ moved_twice d by P Q τ σ m set f =
     filter-same (λ i. has (moved_set Q τ set) (σ i)) tests (numbers (length P))
     (λ i c. let h = below_contained (length P) i c in
     has_is_test (λ j. has set (τ j)) (length Q) (σ i) (m.into i h) ∙ ap (has set) (m.there i h) ∙ ap (λ (s : List ℕ). has s i) f.tight
-        ∙ has_is_test tests (length P) i h)
+    ∙ has_is_test tests (length P) i h)
     ∙ sym f.tight
   where
     tests : ℕ → Bool
@@ -112,11 +112,11 @@ class_facets d is by un inv label other below c found list e are =
     let back = points_match d is un by (inverse_too d by un inv) other label c.0 (carries_back d by un inv label other below c) in
     facets_carried d (label_points Cube d label) (label_points Cube d other) un (carried_point d un other label) (carried_point d by label other) back
     (λ set f.
-         facet_moved d is un inv.is_back.0 (label_points Cube d label) (label_points Cube d other) (carried_point d un other label)
-             (carried_point d by label other) back (points_wide d other is) set f)
+    facet_moved d is un inv.is_back.0 (label_points Cube d label) (label_points Cube d other) (carried_point d un other label)
+    (carried_point d by label other) back (points_wide d other is) set f)
     (λ set f.
-         facet_moved d is by inv.is_move.0 (label_points Cube d other) (label_points Cube d label) (carried_point d by label other)
-             (carried_point d un other label) there (points_wide d label is) set f)
+    facet_moved d is by inv.is_move.0 (label_points Cube d other) (label_points Cube d label) (carried_point d by label other)
+    (carried_point d un other label) there (points_wide d label is) set f)
     found list e (listed_facets d (label_points Cube d other) found are)
 
 -- the numbers of carried points are few

@@ -16,7 +16,7 @@ member_as kind d f edges corners n m es ks i of_edges of_corners in_edges in_cor
   where
     by_test : (b : Bool) → nat_lt i (length es) ≡ b
         → (if b then is_set edges (slice_index es i) else is_set corners (slice_index ks (i - length es)))
-            ≡ (if b then edge_in_facet kind d f (slice_index es i) else corner_in_facet kind f (slice_index ks (i - length es)))
+        ≡ (if b then edge_in_facet kind d f (slice_index es i) else corner_in_facet kind f (slice_index ks (i - length es)))
     by_test true t = let l : i < length es = grind (arith, nat_tests) in of_edges (slice_index es i) (All-get_or (λ e. e < n) es i 0 l in_edges)
     by_test false t =
         let l : length es ≤ i = grind (arith, nat_tests) in

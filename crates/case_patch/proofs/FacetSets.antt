@@ -60,8 +60,8 @@ listed_facets d points found are = record { each = λ number. (λ c. there numbe
     back : (number : ℕ) → IsFacetNumber d points number → Contains found number
     back number f =
         subst (Contains found) (sym f.2)
-            (subst (λ (xs : List ℕ). Contains xs (set_number f.0)) (sym are.numbered)
-                 (Contains-mapped set_number are.sets f.0 ((are.facets.each f.0).1 f.1)))
+        (subst (λ (xs : List ℕ). Contains xs (set_number f.0)) (sym are.numbered)
+        (Contains-mapped set_number are.sets f.0 ((are.facets.each f.0).1 f.1)))
 
 -- the sets of these numbers are the facets
 pub facets_same : (d : ℕ) (points : List (List ℤ)) (found : List ℕ) → length points ≤ 64 → AreAllFacets d points found → (set : List ℕ)
@@ -77,4 +77,4 @@ facets_same d points found h are set = (λ c. there c, λ f. back f)
     back : IsFacet d points set → Contains (map point_set found) set
     back f =
         subst (Contains (map point_set found)) (facet_set d points set h f)
-            (Contains-mapped point_set found (set_number set) (facet_number d points found set are f))
+        (Contains-mapped point_set found (set_number set) (facet_number d points found set are f))

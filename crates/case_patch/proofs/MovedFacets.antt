@@ -31,16 +31,16 @@ use Rattle.halfspace.proofs.TightNumbers.{has_below}
 abbrev pub placed : ℕ → Move → List ℤ → List ℤ
 placed d by x =
     map
-        (λ i.
-             if is_set by.flips i then pos 4 -ℤ slice_index_or x (slice_index by.axes i) (pos 0) else slice_index_or x (slice_index by.axes i) (pos 0))
-        (numbers d)
+    (λ i.
+    if is_set by.flips i then pos 4 -ℤ slice_index_or x (slice_index by.axes i) (pos 0) else slice_index_or x (slice_index by.axes i) (pos 0))
+    (numbers d)
 
 length-placed : (d : ℕ) (by : Move) (x : List ℤ) → length (placed d by x) ≡ d
 length-placed d by x =
     length-map-range_with_len
-        (λ i.
-             if is_set by.flips i then pos 4 -ℤ slice_index_or x (slice_index by.axes i) (pos 0) else slice_index_or x (slice_index by.axes i) (pos 0))
-        0 d
+    (λ i.
+    if is_set by.flips i then pos 4 -ℤ slice_index_or x (slice_index by.axes i) (pos 0) else slice_index_or x (slice_index by.axes i) (pos 0))
+    0 d
 
 length-turned : (d : ℕ) (by : Move) (v : List ℤ) → length (turned d by v) ≡ d
 length-turned d by v = length-map-range_with_len (λ i. signed (is_set by.flips i) (slice_index_or v (slice_index by.axes i) (pos 0))) 0 d
@@ -60,21 +60,21 @@ placed_minus d is by o x y lx ly =
     let a = axis-below d is by.axes o k in_k in
     get_or-minus (placed d by x) (placed d by y) k (length-placed d by x ∙ sym (length-placed d by y)) (omega (arith, in_k, length-placed d by x))
     ∙ ap (λ (z : ℤ). z -ℤ slice_index_or (placed d by y) k (pos 0))
-        (at_place
-             (λ i.
-                  if is_set by.flips i then pos 4
-                      -ℤ slice_index_or x (slice_index by.axes i) (pos 0) else slice_index_or x (slice_index by.axes i) (pos 0))
-             d k (pos 0) in_k)
-    ∙ ap
-        (λ (z : ℤ).
-             (if is_set by.flips k then pos 4
-                  -ℤ slice_index_or x (slice_index by.axes k) (pos 0) else slice_index_or x (slice_index by.axes k) (pos 0))
-                 -ℤ z)
     (at_place
-         (λ i.
-              if is_set by.flips i then pos 4
-                  -ℤ slice_index_or y (slice_index by.axes i) (pos 0) else slice_index_or y (slice_index by.axes i) (pos 0))
-         d k (pos 0) in_k)
+    (λ i.
+    if is_set by.flips i then pos 4
+    -ℤ slice_index_or x (slice_index by.axes i) (pos 0) else slice_index_or x (slice_index by.axes i) (pos 0))
+    d k (pos 0) in_k)
+    ∙ ap
+    (λ (z : ℤ).
+    (if is_set by.flips k then pos 4
+    -ℤ slice_index_or x (slice_index by.axes k) (pos 0) else slice_index_or x (slice_index by.axes k) (pos 0))
+    -ℤ z)
+    (at_place
+    (λ i.
+    if is_set by.flips i then pos 4
+    -ℤ slice_index_or y (slice_index by.axes i) (pos 0) else slice_index_or y (slice_index by.axes i) (pos 0))
+    d k (pos 0) in_k)
     ∙ one_difference (is_set by.flips k) (slice_index_or x (slice_index by.axes k) (pos 0)) (slice_index_or y (slice_index by.axes k) (pos 0))
     ∙ ap (signed (is_set by.flips k)) (sym (get_or-minus x y (slice_index by.axes k) (lx ∙ sym ly) (omega (arith, a, lx))))
     ∙ sym (at_place (λ i. signed (is_set by.flips i) (slice_index_or (minus x y) (slice_index by.axes i) (pos 0))) d k (pos 0) in_k))
@@ -124,7 +124,7 @@ placed_spans d is by o ps l wide s = (
   length-placed d by s.0 ∙ sym l ∙ sym (length-map ps (placed d by)),
   λ e.
       turned_spans d is by o (rows_to ps s.0) (rows_count ps s.0 ∙ l) (rows_wide d ps s.0 wide (s.1 ∙ l)) s.2
-          (ap turn (sym (rows_placed d is by o ps s.0 wide (s.1 ∙ l))) ∙ e),
+      (ap turn (sym (rows_placed d is by o ps s.0 wide (s.1 ∙ l))) ∙ e),
 )
 
 -- ---- products with a turned normal
@@ -146,13 +146,13 @@ same_sum : (d : ℕ) → IsDimension d → (axes : List ℕ) → Contains (order
     → normal (E.total (map (λ i. var (slice_index axes i)) (numbers d))) ≡ normal (E.total (map var (numbers d)))
 same_sum d is axes o =
     each-from_All (λ axes. normal (E.total (map (λ i. var (slice_index axes i)) (numbers d))) ≡ normal (E.total (map var (numbers d)))) (orders d)
-        (all d is) axes o
+    (all d is) axes o
   where
     all : (d : ℕ) → IsDimension d
         → All (λ axes. normal (E.total (map (λ i. var (slice_index axes i)) (numbers d))) ≡ normal (E.total (map var (numbers d)))) (orders d)
     all =
         in_each_dimension
-            (λ d. All (λ axes. normal (E.total (map (λ i. var (slice_index axes i)) (numbers d))) ≡ normal (E.total (map var (numbers d)))) (orders d))
+        (λ d. All (λ axes. normal (E.total (map (λ i. var (slice_index axes i)) (numbers d))) ≡ normal (E.total (map var (numbers d)))) (orders d))
         (agree_on (λ axes. normal (E.total (map (λ i. var (slice_index axes i)) (numbers 2)))) (λ axes. normal (E.total (map var (numbers 2)))) (orders 2) refl)
         (agree_on (λ axes. normal (E.total (map (λ i. var (slice_index axes i)) (numbers 3)))) (λ axes. normal (E.total (map var (numbers 3)))) (orders 3) refl)
         (agree_on (λ axes. normal (E.total (map (λ i. var (slice_index axes i)) (numbers 4)))) (λ axes. normal (E.total (map var (numbers 4)))) (orders 4) refl)
@@ -161,8 +161,8 @@ sum_moved : (d : ℕ) → IsDimension d → (axes : List ℕ) → Contains (orde
     → total (map (λ i. u (slice_index axes i)) (numbers d)) ≡ total (map u (numbers d))
 sum_moved d is axes o u =
     ap total
-        (map_below (λ i. u (slice_index axes i)) (λ i. slice_index_or ρ (slice_index axes i) (pos 0)) d
-             (λ i h. sym (at_place u d (slice_index axes i) (pos 0) (axis-below d is axes o i h))))
+    (map_below (λ i. u (slice_index axes i)) (λ i. slice_index_or ρ (slice_index axes i) (pos 0)) d
+    (λ i h. sym (at_place u d (slice_index axes i) (pos 0) (axis-below d is axes o i h))))
     ∙ ap total (sym (map-map (λ i. var (slice_index axes i)) (value ρ) (numbers d))) ∙ sym (value-total ρ (map (λ i. var (slice_index axes i)) (numbers d)))
     ∙ ring ρ (E.total (map (λ i. var (slice_index axes i)) (numbers d))) (E.total (map var (numbers d))) (same_sum d is axes o)
     ∙ value-total ρ (map var (numbers d)) ∙ ap total (map-map var (value ρ) (numbers d))
@@ -183,12 +183,12 @@ turned_dot : (d : ℕ) → IsDimension d → (by : Move) → Contains (orders d)
     → dot (turned d by n) (placed d by x) ≡ dot n x -ℤ flipped_part d by n
 turned_dot d is by o n x ln lx =
     dot-map (λ i. signed (is_set by.flips i) (at n (slice_index by.axes i)))
-        (λ i. if is_set by.flips i then pos 4 -ℤ at x (slice_index by.axes i) else at x (slice_index by.axes i)) (numbers d)
+    (λ i. if is_set by.flips i then pos 4 -ℤ at x (slice_index by.axes i) else at x (slice_index by.axes i)) (numbers d)
     ∙ ap total (map_below _ (λ i. at n (slice_index by.axes i) *ℤ at x (slice_index by.axes i) -ℤ
-        (if is_set by.flips i then pos 4 *ℤ at n (slice_index by.axes i) else pos 0)) d
+    (if is_set by.flips i then pos 4 *ℤ at n (slice_index by.axes i) else pos 0)) d
     (λ i h. one_product (is_set by.flips i) (at n (slice_index by.axes i)) (at x (slice_index by.axes i))))
     ∙ total-minus (λ i. at n (slice_index by.axes i) *ℤ at x (slice_index by.axes i))
-        (λ i. if is_set by.flips i then pos 4 *ℤ at n (slice_index by.axes i) else pos 0) (numbers d)
+    (λ i. if is_set by.flips i then pos 4 *ℤ at n (slice_index by.axes i) else pos 0) (numbers d)
     ∙ ap (λ (z : ℤ). z -ℤ flipped_part d by n)
     (sum_moved d is by.axes o (λ a. at n a *ℤ at x a) ∙ sym (dot-map (at n) (at x) (numbers d))
     ∙ ap (λ (m : List ℤ). dot m (map (at x) (numbers d))) (sym (places_of (pos 0) n d ln)) ∙ ap (dot n) (sym (places_of (pos 0) x d lx)))
@@ -210,7 +210,7 @@ pub moved_slack : (d : ℕ) → IsDimension d → (by : Move) → Contains (orde
 unfolding moved_half
 moved_slack d is by o h x ln lx =
     ap (λ (z : ℤ). h.bound -ℤ flipped_part d by h.normal -ℤ z) (turned_dot d is by o h.normal x ln lx)
-        ∙ taken h.bound (flipped_part d by h.normal) (dot h.normal x)
+    ∙ taken h.bound (flipped_part d by h.normal) (dot h.normal x)
   where
     taken : (b k m : ℤ) → b -ℤ k -ℤ (m -ℤ k) ≡ b -ℤ m
     taken b k m = omega (arith, ints)
@@ -263,7 +263,7 @@ members_long : (d : ℕ) (Q : List (List ℤ)) → All (λ q. length q ≡ d) Q 
 members_long d Q wide [] h = All-nil (λ p. length p ≡ d)
 members_long d Q wide (j ∷ js) h =
     All-cons (λ p. length p ≡ d) (slice_index_or Q j []) (members Q js) (wide j [] (All-head (λ j. j < length Q) j js h))
-        (members_long d Q wide js (All-tail (λ j. j < length Q) j js h))
+    (members_long d Q wide js (All-tail (λ j. j < length Q) j js h))
 
 -- a facet, moved, is a facet of the moved points
 pub facet_moved : (d : ℕ) → IsDimension d → (by : Move) → Contains (orders d) by.axes → (P Q : List (List ℤ)) (τ σ : ℕ → ℕ) → PointsMatch d by P Q τ σ
@@ -275,16 +275,16 @@ facet_moved d is by o P Q τ σ m wide set f = record {
   normal = moved_normal d is by o f.half f.wide f.normal;
   holds =
       λ i e h.
-          subst (λ (p : List ℤ). Holds (moved_half d by f.half) p) (any_default P i [] e h)
-              (subst (λ (z : ℤ). pos 0 ≤ℤ z) (sym (slack_at i h)) (f.holds (σ i) [] (m.into i h)));
+      subst (λ (p : List ℤ). Holds (moved_half d by f.half) p) (any_default P i [] e h)
+      (subst (λ (z : ℤ). pos 0 ≤ℤ z) (sym (slack_at i h)) (f.holds (σ i) [] (m.into i h)));
   tight =
       filter-same (λ i. has set (σ i)) (λ i. same_int (slack (moved_half d by f.half) (slice_index_or P i [])) (pos 0)) (numbers (length P))
-          (λ i c. tight_at i (below_contained (length P) i c));
+      (λ i c. tight_at i (below_contained (length P) i c));
   basis = map τ f.basis;
   within =
       All-map (λ i. IsTrue (has (moved_set P σ set) i)) τ f.basis
-          (All-from_each (λ j. IsTrue (has (moved_set P σ set) (τ j))) f.basis
-               (λ j c. within_at j (each-from_All (λ j. IsTrue (has set j)) f.basis f.within j c)));
+      (All-from_each (λ j. IsTrue (has (moved_set P σ set) (τ j))) f.basis
+      (λ j c. within_at j (each-from_All (λ j. IsTrue (has set j)) f.basis f.within j c)));
   full = length-map f.basis τ ∙ f.full;
   spans = subst Spans (sym (members_moved d by P Q τ σ m f.basis in_Q))
       (placed_spans d is by o (members Q f.basis) (length-members Q f.basis ∙ f.full) (members_long d Q wide f.basis in_Q) f.spans);

@@ -95,13 +95,13 @@ corner_placed d is by o k =
     (λ i h. let a = axis-below d is by.axes o i h in
     ap (λ (z : ℤ). if is_set by.flips i then pos 4 -ℤ z else z) (twice_at (slice_index by.axes i) a)
     ∙ one_corner (bit_at k (slice_index by.axes i)) (bit_at by.flips i) (bit_at (move_corner d by k) i) (bit_at-lt k (slice_index by.axes i))
-        (bit_at-lt by.flips i) (corner-bit d by k i h))
+    (bit_at-lt by.flips i) (corner-bit d by k i h))
     ∙ sym (map-map (λ i. 2 * bit_at (move_corner d by k) i) (λ x. pos (2 * x)) (numbers d))
   where
     twice_at : (a : ℕ) → a < d → slice_index_or (map (λ x. pos (2 * x)) (corner_point Cube d k)) a (pos 0) ≡ pos (2 * (2 * bit_at k a))
     twice_at a h =
         ap (λ (xs : List ℤ). slice_index_or xs a (pos 0)) (map-map (λ i. 2 * bit_at k i) (λ x. pos (2 * x)) (numbers d))
-            ∙ at_place (λ i. pos (2 * (2 * bit_at k i))) d a (pos 0) h
+        ∙ at_place (λ i. pos (2 * (2 * bit_at k i))) d a (pos 0) h
 
 -- the midpoint of two moved corners
 middle_placed : (d : ℕ) → IsDimension d → (by : Move) → Contains (orders d) by.axes → (j k : ℕ)
@@ -111,14 +111,14 @@ middle_placed d is by o j k =
     (λ i h. let a = axis-below d is by.axes o i h in
     ap (λ (z : ℤ). if is_set by.flips i then pos 4 -ℤ z else z) (middle_at (slice_index by.axes i) a)
     ∙ one_midpoint (bit_at j (slice_index by.axes i)) (bit_at k (slice_index by.axes i)) (bit_at by.flips i) (bit_at (move_corner d by j) i)
-        (bit_at (move_corner d by k) i)
+    (bit_at (move_corner d by k) i)
     (bit_at-lt j (slice_index by.axes i)) (bit_at-lt k (slice_index by.axes i)) (bit_at-lt by.flips i) (corner-bit d by j i h) (corner-bit d by k i h))
     ∙ sym (middle (move_corner d by j) (move_corner d by k))
   where
     middle : (x y : ℕ) → map pos (midpoint_between Cube d (x, y)) ≡ map (λ i. pos (2 * bit_at x i + 2 * bit_at y i)) (numbers d)
     middle x y =
         ap (map pos) (plus-map (λ i. 2 * bit_at x i) (λ i. 2 * bit_at y i) (numbers d))
-            ∙ map-map (λ i. 2 * bit_at x i + 2 * bit_at y i) pos (numbers d)
+        ∙ map-map (λ i. 2 * bit_at x i + 2 * bit_at y i) pos (numbers d)
 
     middle_at : (a : ℕ) → a < d → slice_index_or (map pos (midpoint_between Cube d (j, k))) a (pos 0) ≡ pos (2 * bit_at j a + 2 * bit_at k a)
     middle_at a h = ap (λ (xs : List ℤ). slice_index_or xs a (pos 0)) (middle j k) ∙ at_place (λ i. pos (2 * bit_at j i + 2 * bit_at k i)) d a (pos 0) h
@@ -143,14 +143,14 @@ point_of_edge : (d label i : ℕ) → i < length (label_edges Cube d label)
     → slice_index_or (label_points Cube d label) i [] ≡ edge_point d (slice_index (label_edges Cube d label) i)
 point_of_edge d label i h =
     get_or_append_left (map (edge_point d) (label_edges Cube d label)) (map (twice_corner d) (label_corners Cube d label)) [] i
-        (omega (arith, h, length-map (label_edges Cube d label) (edge_point d)))
+    (omega (arith, h, length-map (label_edges Cube d label) (edge_point d)))
     ∙ get_or-map (edge_point d) (label_edges Cube d label) i 0 [] h
 
 point_of_corner : (d label i : ℕ) → length (label_edges Cube d label) ≤ i → i < length (label_points Cube d label)
     → slice_index_or (label_points Cube d label) i [] ≡ twice_corner d (slice_index (label_corners Cube d label) (i - length (label_edges Cube d label)))
 point_of_corner d label i h k =
     get_or-append_right (map (edge_point d) (label_edges Cube d label)) (map (twice_corner d) (label_corners Cube d label))
-        (length (label_edges Cube d label)) i []
+    (length (label_edges Cube d label)) i []
     (length-map (label_edges Cube d label) (edge_point d)) h
     ∙ get_or-map (twice_corner d) (label_corners Cube d label) (i - length (label_edges Cube d label)) 0 [] (omega (arith, h, k, points_length Cube d label))
 
@@ -173,15 +173,15 @@ midpoint_carried : (d : ℕ) → IsDimension d → (by un : Move) → AreInverse
 midpoint_carried d is by un inv label other c i h =
     let j : ℕ = place fs f in
     let to : carried_point d by label other i ≡ j =
-        ap
-            (λ (b : Bool).
-                 if b then place fs (move_edge d by (slice_index es i)) else length fs + place ls (move_corner d by (slice_index ks (i - length es))))
-            below in
+    ap
+    (λ (b : Bool).
+    if b then place fs (move_edge d by (slice_index es i)) else length fs + place ls (move_corner d by (slice_index ks (i - length es))))
+    below in
     let back : carried_point d un other label j ≡ i =
     ap
-        (λ (b : Bool).
-             if b then place es (move_edge d un (slice_index fs j)) else length es + place ks (move_corner d un (slice_index ls (j - length fs))))
-        (lt-ltb j (length fs) found.0)
+    (λ (b : Bool).
+    if b then place es (move_edge d un (slice_index fs j)) else length es + place ks (move_corner d un (slice_index ls (j - length fs))))
+    (lt-ltb j (length fs) found.0)
     ∙ ap (λ (x : ℕ). place es (move_edge d un x)) found.1 ∙ ap (place es) (edge_there d is by un inv e in_e) ∙ own_place es (edges_ascend d label) i h in
     record {
       onto = omega (arith, to, found.0, points_length Cube d other);
@@ -217,19 +217,19 @@ midpoint_carried d is by un inv label other c i h =
     in_e : slice_index (label_edges Cube d label) i < edge_count Cube d
     in_e =
         below_contained (edge_count Cube d) (slice_index (label_edges Cube d label) i)
-            (Contains-filter (is_bipolar_in Cube d label) (numbers (edge_count Cube d)) (slice_index (label_edges Cube d label) i) there)
+        (Contains-filter (is_bipolar_in Cube d label) (numbers (edge_count Cube d)) (slice_index (label_edges Cube d label) i) there)
 
     member : Contains (label_edges Cube d other) (move_edge d by (slice_index (label_edges Cube d label) i))
     member = kept_by (is_bipolar_in Cube d other) (numbers (edge_count Cube d)) (move_edge d by (slice_index (label_edges Cube d label) i))
         (contained_below (edge_count Cube d) (move_edge d by (slice_index (label_edges Cube d label) i))
-             (edge_moved d is by inv.is_move (slice_index (label_edges Cube d label) i) in_e).below)
+        (edge_moved d is by inv.is_move (slice_index (label_edges Cube d label) i) in_e).below)
         (bipolar_moved d is by inv.is_move label other c (slice_index (label_edges Cube d label) i) in_e
-             ∙ Contains-passes (is_bipolar_in Cube d label) (numbers (edge_count Cube d)) (slice_index (label_edges Cube d label) i) there)
+        ∙ Contains-passes (is_bipolar_in Cube d label) (numbers (edge_count Cube d)) (slice_index (label_edges Cube d label) i) there)
 
     found : (place (label_edges Cube d other) (move_edge d by (slice_index (label_edges Cube d label) i)) < length (label_edges Cube d other))
         ×
-            (slice_index (label_edges Cube d other) (place (label_edges Cube d other) (move_edge d by (slice_index (label_edges Cube d label) i)))
-                 ≡ move_edge d by (slice_index (label_edges Cube d label) i))
+        (slice_index (label_edges Cube d other) (place (label_edges Cube d other) (move_edge d by (slice_index (label_edges Cube d label) i)))
+        ≡ move_edge d by (slice_index (label_edges Cube d label) i))
     found = member_place (label_edges Cube d other) (move_edge d by (slice_index (label_edges Cube d label) i)) member
 
 -- a corner
@@ -240,21 +240,21 @@ corner_carried d is by un inv label other c i h in_i =
     let p : ℕ = place ls (move_corner d by (slice_index ks n)) in
     let to : carried_point d by label other i ≡ length fs + p =
     ap
-        (λ (b : Bool).
-             if b then place fs (move_edge d by (slice_index es i)) else length fs + place ls (move_corner d by (slice_index ks (i - length es))))
-        (le-ltb i (length es) h) in
+    (λ (b : Bool).
+    if b then place fs (move_edge d by (slice_index es i)) else length fs + place ls (move_corner d by (slice_index ks (i - length es))))
+    (le-ltb i (length es) h) in
     let past : nat_lt (length fs + p) (length fs) ≡ false = le-ltb (length fs + p) (length fs) (omega arith) in
     let less : length fs + p - length fs ≡ p = omega arith in
     let whole : length es + n ≡ i = omega arith in
     let back : carried_point d un other label (length fs + p) ≡ i =
     ap
-        (λ (b : Bool).
-             if b then place es (move_edge d un (slice_index fs (length fs + p))) else length es
-                 + place ks (move_corner d un (slice_index ls (length fs + p - length fs))))
-        past
+    (λ (b : Bool).
+    if b then place es (move_edge d un (slice_index fs (length fs + p))) else length es
+    + place ks (move_corner d un (slice_index ls (length fs + p - length fs))))
+    past
     ∙ ap (λ (q : ℕ). length es + place ks (move_corner d un (slice_index ls q))) less ∙ ap (λ (x : ℕ). length es + place ks (move_corner d un x)) found.1
     ∙ ap (λ (x : ℕ). length es + place ks x) (inv.there (slice_index ks n) in_k)
-        ∙ ap (λ (q : ℕ). length es + q) (own_place ks (corners_ascend d label) n in_n) ∙ whole in
+    ∙ ap (λ (q : ℕ). length es + q) (own_place ks (corners_ascend d label) n in_n) ∙ whole in
     let there : length fs + p < length (label_points Cube d other) = omega (arith, found.0, points_length Cube d other) in
     record {
       onto = omega (arith, to, there);
@@ -292,19 +292,19 @@ corner_carried d is by un inv label other c i h in_i =
     member : Contains (label_corners Cube d other) (move_corner d by (slice_index (label_corners Cube d label) (i - length (label_edges Cube d label))))
     member = kept_by (is_set other) (numbers (2 ^ d)) (move_corner d by (slice_index (label_corners Cube d label) (i - length (label_edges Cube d label))))
         (contained_below (2 ^ d) (move_corner d by (slice_index (label_corners Cube d label) (i - length (label_edges Cube d label))))
-             (corner-below d by (slice_index (label_corners Cube d label) (i - length (label_edges Cube d label)))))
+        (corner-below d by (slice_index (label_corners Cube d label) (i - length (label_edges Cube d label)))))
         (c.1 (slice_index (label_corners Cube d label) (i - length (label_edges Cube d label))) in_k
         ∙ Contains-passes (is_set label) (numbers (2 ^ d)) (slice_index (label_corners Cube d label) (i - length (label_edges Cube d label))) there_k)
 
     found :
         (place (label_corners Cube d other) (move_corner d by (slice_index (label_corners Cube d label) (i - length (label_edges Cube d label))))
-             < length (label_corners Cube d other))
+        < length (label_corners Cube d other))
         × (slice_index (label_corners Cube d other)
-            (place (label_corners Cube d other) (move_corner d by (slice_index (label_corners Cube d label) (i - length (label_edges Cube d label)))))
+        (place (label_corners Cube d other) (move_corner d by (slice_index (label_corners Cube d label) (i - length (label_edges Cube d label)))))
         ≡ move_corner d by (slice_index (label_corners Cube d label) (i - length (label_edges Cube d label))))
     found =
         member_place (label_corners Cube d other)
-            (move_corner d by (slice_index (label_corners Cube d label) (i - length (label_edges Cube d label)))) member
+        (move_corner d by (slice_index (label_corners Cube d label) (i - length (label_edges Cube d label)))) member
 
 pub point_carried : (d : ℕ) → IsDimension d → (by un : Move) → AreInverse d by un → (label other : ℕ) → Carries d by label other → (i : ℕ)
     → i < length (label_points Cube d label)

@@ -64,7 +64,7 @@ value-turn ρ rows =
   where
     each : (os : List (List ℕ))
         → map (value ρ) (map (λ o. E.signed (is_odd_order o) (E.product_along rows o)) os)
-              ≡ map (λ o. signed (is_odd_order o) (product_along (map (map (value ρ)) rows) o)) os
+        ≡ map (λ o. signed (is_odd_order o) (product_along (map (map (value ρ)) rows) o)) os
     each [] = refl
     each (o ∷ os) =
         ap (λ (z : ℤ). z ∷ map (value ρ) (map (λ o. E.signed (is_odd_order o) (E.product_along rows o)) os))
@@ -88,27 +88,27 @@ same_turn : (d : ℕ) → IsDimension d → (axes : List ℕ) → Contains (orde
     → normal (E.turn (moved_rows d axes)) ≡ normal (E.signed (is_odd_order axes) (times (d * d) (numbers d) (E.turn (plain_rows d))))
 same_turn d is axes o =
     each-from_All
-        (λ axes. normal (E.turn (moved_rows d axes)) ≡ normal (E.signed (is_odd_order axes) (times (d * d) (numbers d) (E.turn (plain_rows d)))))
-        (orders d) (all d is) axes o
+    (λ axes. normal (E.turn (moved_rows d axes)) ≡ normal (E.signed (is_odd_order axes) (times (d * d) (numbers d) (E.turn (plain_rows d)))))
+    (orders d) (all d is) axes o
   where
     all : (d : ℕ) → IsDimension d
         → All
-              (λ axes. normal (E.turn (moved_rows d axes)) ≡ normal (E.signed (is_odd_order axes) (times (d * d) (numbers d) (E.turn (plain_rows d)))))
-              (orders d)
+        (λ axes. normal (E.turn (moved_rows d axes)) ≡ normal (E.signed (is_odd_order axes) (times (d * d) (numbers d) (E.turn (plain_rows d)))))
+        (orders d)
     all =
         in_each_dimension
-            (λ d.
-                 All
-                     (λ axes.
-                          normal (E.turn (moved_rows d axes))
-                              ≡ normal (E.signed (is_odd_order axes) (times (d * d) (numbers d) (E.turn (plain_rows d)))))
-                     (orders d))
+        (λ d.
+        All
+        (λ axes.
+        normal (E.turn (moved_rows d axes))
+        ≡ normal (E.signed (is_odd_order axes) (times (d * d) (numbers d) (E.turn (plain_rows d)))))
+        (orders d))
         (agree_on (λ axes. normal (E.turn (moved_rows 2 axes)))
-             (λ axes. normal (E.signed (is_odd_order axes) (times 4 (numbers 2) (E.turn (plain_rows 2))))) (orders 2) refl)
+        (λ axes. normal (E.signed (is_odd_order axes) (times 4 (numbers 2) (E.turn (plain_rows 2))))) (orders 2) refl)
         (agree_on (λ axes. normal (E.turn (moved_rows 3 axes)))
-             (λ axes. normal (E.signed (is_odd_order axes) (times 9 (numbers 3) (E.turn (plain_rows 3))))) (orders 3) refl)
+        (λ axes. normal (E.signed (is_odd_order axes) (times 9 (numbers 3) (E.turn (plain_rows 3))))) (orders 3) refl)
         (agree_on (λ axes. normal (E.turn (moved_rows 4 axes)))
-             (λ axes. normal (E.signed (is_odd_order axes) (times 16 (numbers 4) (E.turn (plain_rows 4))))) (orders 4) refl)
+        (λ axes. normal (E.signed (is_odd_order axes) (times 16 (numbers 4) (E.turn (plain_rows 4))))) (orders 4) refl)
 
 -- ---- the values of the variables
 
@@ -179,7 +179,7 @@ moved_value : (d : ℕ) → IsDimension d → (by : Move) → Contains (orders d
 moved_value d is by o entry =
     map-map (λ r. map (λ i. var (d * d + i) ⊗ var (r * d + slice_index by.axes i)) (numbers d)) (map (value ρ)) (numbers d)
     ∙ map_below (λ r. map (value ρ) (map (λ i. var (d * d + i) ⊗ var (r * d + slice_index by.axes i)) (numbers d)))
-        (λ r. turned d by (map (entry r) (numbers d))) d
+    (λ r. turned d by (map (entry r) (numbers d))) d
     (λ r in_r. map-map (λ i. var (d * d + i) ⊗ var (r * d + slice_index by.axes i)) (value ρ) (numbers d)
     ∙ map_below (λ i. slice_index_or ρ (d * d + i) (pos 0) *ℤ slice_index_or ρ (r * d + slice_index by.axes i) (pos 0))
     (λ i. signed (is_set by.flips i) (slice_index_or (map (entry r) (numbers d)) (slice_index by.axes i) (pos 0))) d
@@ -198,8 +198,8 @@ times-not_zero : (ρ : List ℤ) (n : ℕ) (is : List ℕ) (x : Expr) → ((i : 
 times-not_zero ρ n [] x each ne = ne
 times-not_zero ρ n (i ∷ is) x each ne =
     λ e.
-        times-not_zero ρ n is x (λ j c. each j (Contains-tail j i is c)) ne
-            (mul-eq-zero (slice_index_or ρ (n + i) (pos 0)) (value ρ (times n is x)) e (each i (Contains-head i is)))
+    times-not_zero ρ n is x (λ j c. each j (Contains-tail j i is c)) ne
+    (mul-eq-zero (slice_index_or ρ (n + i) (pos 0)) (value ρ (times n is x)) e (each i (Contains-head i is)))
 
 signed-not_zero : (b : Bool) (z : ℤ) → z ≢ pos 0 → signed b z ≢ pos 0
 signed-not_zero true z ne e = ne (omega (arith, ints, e))
@@ -214,8 +214,8 @@ turned_rows d is by o entry ne e =
     (λ z. ne (ap turn (sym (plain_value d is entry (is_set by.flips))) ∙ sym (value-turn ρ (plain_rows d)) ∙ z)))
     (sym (value-signed ρ (is_odd_order by.axes) (times (d * d) (numbers d) (E.turn (plain_rows d))))
     ∙ sym
-        (ring ρ (E.turn (moved_rows d by.axes)) (E.signed (is_odd_order by.axes) (times (d * d) (numbers d) (E.turn (plain_rows d))))
-             (same_turn d is by.axes o))
+    (ring ρ (E.turn (moved_rows d by.axes)) (E.signed (is_odd_order by.axes) (times (d * d) (numbers d) (E.turn (plain_rows d))))
+    (same_turn d is by.axes o))
     ∙ value-turn ρ (moved_rows d by.axes) ∙ ap turn (moved_value d is by o entry) ∙ e)
   where
     ρ : List ℤ
@@ -237,4 +237,4 @@ pub turned_spans : (d : ℕ) → IsDimension d → (by : Move) → Contains (ord
 turned_spans d is by o rows l wide ne e =
     let r = rows_are d rows l wide in
     turned_rows d is by o (λ r a. slice_index_or (slice_index_or rows r []) a (pos 0)) (λ z. ne (ap turn r ∙ z))
-        (ap (λ (rs : List (List ℤ)). turn (map (turned d by) rs)) (sym r) ∙ e)
+    (ap (λ (rs : List (List ℤ)). turn (map (turned d by) rs)) (sym r) ∙ e)

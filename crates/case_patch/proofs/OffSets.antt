@@ -58,7 +58,7 @@ has_is_test q n i h = same_tests (has (filter q (numbers n)) i) (q i) (λ e. has
 within_test : (p q : ℕ → Bool) (n : ℕ) → list_all (has (filter q (numbers n))) (filter p (numbers n)) ≡ list_all q (filter p (numbers n))
 within_test p q n =
     all_same (has (filter q (numbers n))) q (filter p (numbers n))
-        (λ i c. has_is_test q n i (below_contained n i (Contains-filter p (numbers n) i c)))
+    (λ i c. has_is_test q n i (below_contained n i (Contains-filter p (numbers n) i c)))
 
 number_small : (p : ℕ → Bool) (n : ℕ) → n ≤ 64 → set_number (filter p (numbers n)) < 2 ^ 64
 number_small p n h = let l = set_number-below p n in let k : 2 ^ n ≤ 2 ^ 64 = pow_mono h in omega arith
@@ -81,7 +81,7 @@ within_is p q n h = same_tests _ _ (λ e. there (equal_of _ _ e)) (λ e. of_equa
         → bit_and (set_number (filter p (numbers n))) (set_number (filter q (numbers n))) ≡ set_number (filter p (numbers n))
     back e =
         let l : LiesWithin (filter p (numbers n)) (filter q (numbers n)) =
-            all_kept (has (filter q (numbers n))) (filter p (numbers n)) (within_test p q n ∙ e) in
+        all_kept (has (filter q (numbers n))) (filter p (numbers n)) (within_test p q n ∙ e) in
         within-points (set_number (filter p (numbers n))) (set_number (filter q (numbers n))) (number_small p n h)
         (subst (λ (s : List ℕ). LiesWithin s (point_set (set_number (filter q (numbers n))))) (sym (tested_set p n h))
         (subst (λ (s : List ℕ). LiesWithin (filter p (numbers n)) s) (sym (tested_set q n h)) l))
@@ -91,10 +91,10 @@ within_is p q n h = same_tests _ _ (λ e. there (equal_of _ _ e)) (λ e. of_equa
 abbrev pub boundary_of : Kind → ℕ → ℕ → List ℕ
 boundary_of kind d label =
     map
-        (λ f.
-             set_number
-                 (filter (is_in_facet kind d (label_edges kind d label) (label_corners kind d label) f)
-                      (numbers (length (label_edges kind d label) + length (label_corners kind d label)))))
+    (λ f.
+    set_number
+    (filter (is_in_facet kind d (label_edges kind d label) (label_corners kind d label) f)
+    (numbers (length (label_edges kind d label) + length (label_corners kind d label)))))
     (numbers (facet_count kind d))
 
 pub boundary_is : (kind : Kind) (d label n : ℕ) (es ks sets : List ℕ) → es ≡ label_edges kind d label → ks ≡ label_corners kind d label → n ≡ facet_count kind d
@@ -103,33 +103,33 @@ boundary_is kind d label n es ks sets e k m s =
     s
     ∙ ap (λ (xs : List ℕ). map (λ f. set_number (filter (is_in_facet kind d xs ks f) (numbers (length xs + length ks)))) (numbers n)) e
     ∙ ap
-        (λ (xs : List ℕ).
-             map
-                 (λ f.
-                      set_number
-                          (filter (is_in_facet kind d (label_edges kind d label) xs f) (numbers (length (label_edges kind d label) + length xs))))
-                 (numbers n))
-        k
+    (λ (xs : List ℕ).
+    map
+    (λ f.
+    set_number
+    (filter (is_in_facet kind d (label_edges kind d label) xs f) (numbers (length (label_edges kind d label) + length xs))))
+    (numbers n))
+    k
     ∙ ap
-        (λ (c : ℕ).
-             map
-                 (λ f.
-                      set_number
-                          (filter (is_in_facet kind d (label_edges kind d label) (label_corners kind d label) f)
-                               (numbers (length (label_edges kind d label) + length (label_corners kind d label)))))
-                 (numbers c))
-        m
+    (λ (c : ℕ).
+    map
+    (λ f.
+    set_number
+    (filter (is_in_facet kind d (label_edges kind d label) (label_corners kind d label) f)
+    (numbers (length (label_edges kind d label) + length (label_corners kind d label)))))
+    (numbers c))
+    m
 
 -- over sets that are given by tests on the numbers below n
 off_by_tests : (p : ℕ → Bool) (inside : ℕ → ℕ → Bool) (n m : ℕ) → n ≤ 64
     → is_off (set_number (filter p (numbers n))) (map (λ f. set_number (filter (inside f) (numbers n))) (numbers m))
-        ≡ not (list_any (λ f. list_all (inside f) (filter p (numbers n))) (numbers m))
+    ≡ not (list_any (λ f. list_all (inside f) (filter p (numbers n))) (numbers m))
 off_by_tests p inside n m h =
     list_all-map (λ other. not (bit_and (set_number (filter p (numbers n))) other == set_number (filter p (numbers n))))
-        (λ f. set_number (filter (inside f) (numbers n))) (numbers m)
+    (λ f. set_number (filter (inside f) (numbers n))) (numbers m)
     ∙ all_same
-        (λ f. not (bit_and (set_number (filter p (numbers n))) (set_number (filter (inside f) (numbers n))) == set_number (filter p (numbers n))))
-        (λ f. not (list_all (inside f) (filter p (numbers n)))) (numbers m)
+    (λ f. not (bit_and (set_number (filter p (numbers n))) (set_number (filter (inside f) (numbers n))) == set_number (filter p (numbers n))))
+    (λ f. not (list_all (inside f) (filter p (numbers n)))) (numbers m)
     (λ f c. ap not (within_is p (inside f) n h))
     ∙ not_any (λ f. list_all (inside f) (filter p (numbers n))) (numbers m)
 
@@ -138,4 +138,4 @@ pub off_is : (kind : Kind) (d label : ℕ) (p : ℕ → Bool) → length (label_
     ≡ is_off_boundary kind d label (filter p (numbers (length (label_edges kind d label) + length (label_corners kind d label))))
 off_is kind d label p h =
     off_by_tests p (is_in_facet kind d (label_edges kind d label) (label_corners kind d label))
-        (length (label_edges kind d label) + length (label_corners kind d label)) (facet_count kind d) h
+    (length (label_edges kind d label) + length (label_corners kind d label)) (facet_count kind d) h

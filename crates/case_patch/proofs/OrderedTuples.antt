@@ -24,7 +24,7 @@ ordered_list d old moved kept wide p s k = record {
   same = λ t. (λ c. there t (subst (λ (xs : List (List ℕ)). Contains xs t) k c), λ c. back t c);
   ascending =
       ascends_by_steps (λ (v w : List ℕ). IsTrue (comes_before v w)) kept
-          (subst (AscendsBy (λ (v w : List ℕ). IsTrue (comes_before v w))) (sym k) rises);
+      (subst (AscendsBy (λ (v w : List ℕ). IsTrue (comes_before v w))) (sym k) rises);
 }
   where
     there : (t : List ℕ) → Contains (dedup (pointwise nat_eq) moved) t → Contains old t

@@ -71,7 +71,7 @@ tuples_are kind d label found has are tuple = (λ t. there t, λ t. back t)
               t.simplex,
               subst (λ (s : List ℕ). IsPulled (Contains (map point_set found)) d s t.simplex) (sym set_is)
                   (pulled_too (IsFacet d (label_points kind d label)) (Contains (map point_set found)) (λ s. ((same s).1, (same s).0)) d t.facet
-                       t.simplex t.is_pulled),
+                  t.simplex t.is_pulled),
               (t.midpoints, t.named),
             ),
           ),

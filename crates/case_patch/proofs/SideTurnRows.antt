@@ -19,7 +19,7 @@ rows_of kind d label x xs e =
     ∙ ap (map (side_row kind d label (x ∷ xs))) (numbers_more (length xs))
     ∙ map-append (side_row kind d label (x ∷ xs)) (numbers (length xs)) (length xs ∷ [])
     ∙ ap (λ (rs : List (List ℤ)). rs ++ side_row kind d label (x ∷ xs) (length xs) ∷ [])
-        (sym front ∙ sym (map-map (edge_midpoint kind d) (λ q. difference q (edge_midpoint kind d x)) xs))
+    (sym front ∙ sym (map-map (edge_midpoint kind d) (λ q. difference q (edge_midpoint kind d x)) xs))
     ∙ ap (λ (r : List ℤ). map (λ q. difference q (edge_midpoint kind d x)) (map (edge_midpoint kind d) xs) ++ r ∷ []) last
   where
     at : (k : ℕ) → k < length xs → difference (edge_midpoint kind d (slice_index xs k)) (edge_midpoint kind d x) ≡ side_row kind d label (x ∷ xs) k
@@ -28,9 +28,9 @@ rows_of kind d label x xs e =
         let s : suc k ≡ k + 1 = omega arith in
         ap (λ (n : ℕ). difference (edge_midpoint kind d (slice_index (x ∷ xs) n)) (edge_midpoint kind d x)) s
         ∙ ap
-            (λ (b : Bool).
-                 if b then difference (edge_midpoint kind d (slice_index (x ∷ xs) (k + 1))) (edge_midpoint kind d x) else direction kind d label x)
-            (sym t)
+        (λ (b : Bool).
+        if b then difference (edge_midpoint kind d (slice_index (x ∷ xs) (k + 1))) (edge_midpoint kind d x) else direction kind d label x)
+        (sym t)
 
     front : map (λ e. difference (edge_midpoint kind d e) (edge_midpoint kind d x)) xs ≡ map (side_row kind d label (x ∷ xs)) (numbers (length xs))
     front = fill_by_all (side_row kind d label (x ∷ xs)) (map (λ e. difference (edge_midpoint kind d e) (edge_midpoint kind d x)) xs) (length xs) []
@@ -41,14 +41,14 @@ rows_of kind d label x xs e =
     last =
         let t : nat_lt (length xs + 1) d ≡ false = grind (arith, nat_tests) in
         ap
-            (λ (b : Bool).
-                 if b then difference (edge_midpoint kind d (slice_index (x ∷ xs) (length xs + 1))) (edge_midpoint kind d x) else direction kind d
-                     label x)
-            t
+        (λ (b : Bool).
+        if b then difference (edge_midpoint kind d (slice_index (x ∷ xs) (length xs + 1))) (edge_midpoint kind d x) else direction kind d
+        label x)
+        t
 
 -- rows that are filled place by place
 pub rows_are : (kind : Kind) (d label : ℕ) (w : List ℕ) (rows : List (List ℤ)) → length w ≡ d → 0 < d → length rows ≡ d
     → ((k : ℕ) → k < d → slice_index_or rows k [] ≡ side_row kind d label w k)
-        → rows ≡ side_rows (map (edge_midpoint kind d) w) (direction kind d label (slice_index w 0))
+    → rows ≡ side_rows (map (edge_midpoint kind d) w) (direction kind d label (slice_index w 0))
 rows_are kind d label [] rows e some l h = absurd (omega arith)
 rows_are kind d label (x ∷ xs) rows e some l h = fill_by_all (side_row kind d label (x ∷ xs)) rows d [] l h ∙ rows_of kind d label x xs (omega arith)

@@ -34,14 +34,14 @@ pub corner_is_point : (kind : Kind) (d : ℕ) → IsDimension d → HasDimension
 corner_is_point kind d is has k h = point_from d 2 (corner_point kind d k)
     (agree (corner_count kind d) (λ i. is_point d 2 (corner_point kind d i)) (λ _. true)
     (of_each_cell (λ c n. map (λ i. is_point n 2 (corner_point c n i)) (numbers (corner_count c n)) ≡ map (λ _. true) (numbers (corner_count c n)))
-         refl refl refl refl refl refl refl kind d is has)
+    refl refl refl refl refl refl refl kind d is has)
     k h)
 
 pub midpoint_is_point : (kind : Kind) (d : ℕ) → IsDimension d → HasDimension kind d → (e : ℕ) → e < edge_count kind d → IsPoint d 4 (edge_midpoint kind d e)
 midpoint_is_point kind d is has e h = point_from d 4 (edge_midpoint kind d e)
     (agree (edge_count kind d) (λ i. is_point d 4 (edge_midpoint kind d i)) (λ _. true)
     (of_each_cell (λ c n. map (λ i. is_point n 4 (edge_midpoint c n i)) (numbers (edge_count c n)) ≡ map (λ _. true) (numbers (edge_count c n))) refl
-         refl refl refl refl refl refl kind d is has)
+    refl refl refl refl refl refl kind d is has)
     e h)
 
 -- ---- the same in whole numbers

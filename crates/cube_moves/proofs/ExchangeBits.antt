@@ -101,7 +101,7 @@ exchanged_signs d w x small is c below =
     by_set : (k l : Bool) → is_set x.kept c ≡ k → is_set x.lower c ≡ l
         → cond k (not l && is_free x c) (cond l (nat_lt (c + x.shift) (2 ^ d) && is_free x c) (nat_le x.shift c && is_set x.lower (c - x.shift))) ≡ true
         → max (max (min (bit_at w c) (bit_at x.kept c)) (raised w x c)) (min (bit_at w (c + x.shift)) (bit_at x.lower c))
-            ≡ bit_at w (cond k c (cond l (c + x.shift) (c - x.shift)))
+        ≡ bit_at w (cond k c (cond l (c + x.shift) (c - x.shift)))
     by_set true true e f g = absurd (cc)
     by_set true false e f g =
         let y = free-raised w x c g in

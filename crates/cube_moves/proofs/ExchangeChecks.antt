@@ -152,14 +152,13 @@ stays d = list_all (λ k. move_corner d (flips_alone d 0) k == k) (numbers (2 ^ 
 
 pub flips_none : (d : ℕ) → IsDimension d → (label : ℕ) → label < 2 ^ (2 ^ d) → Carries d (flips_alone d 0) label label
 unfolding stays
-flips_none d is label below =
-    (
-      below,
-      λ k h.
-          ap (is_set label)
-              (eqb-true _ _
-                   (each_below (λ k. move_corner d (flips_alone d 0) k == k) (2 ^ d) (in_each_dimension (λ n. stays n ≡ true) refl refl refl d is) k h))
-    )
+flips_none d is label below = (
+  below,
+  λ k h.
+      ap (is_set label)
+      (eqb-true _ _
+      (each_below (λ k. move_corner d (flips_alone d 0) k == k) (2 ^ d) (in_each_dimension (λ n. stays n ≡ true) refl refl refl d is) k h)),
+)
 
 pub first_order : (d : ℕ) → IsDimension d → order_of d 0 ≡ numbers d
 first_order = in_each_dimension (λ d. order_of d 0 ≡ numbers d) refl refl refl

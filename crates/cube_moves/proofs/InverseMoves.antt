@@ -63,8 +63,8 @@ all_have_back = each_order has_back refl refl refl
 pub back_there : (d : ℕ) → IsDimension d → (axes : List ℕ) → Contains (orders d) axes → Contains (orders d) (back d axes)
 back_there d is axes o =
     let p =
-        and_parts (nat_lt (number_back d axes) (length (orders d))) (same_list (back d axes) (order_of d (number_back d axes)))
-            (all_have_back d is axes o) in
+    and_parts (nat_lt (number_back d axes) (length (orders d))) (same_list (back d axes) (order_of d (number_back d axes)))
+    (all_have_back d is axes o) in
     let e = (bytes_eq-Decides (back d axes) (order_of d (number_back d axes))).0 p.1 in
     subst (Contains (orders d)) (sym e) (order_there d (number_back d axes) (ltb-true _ _ p.0))
 
@@ -186,9 +186,9 @@ edge_there d is by un i e h =
     let lows : min a b ≡ a = let o = s.ordered in omega arith in
     let highs : max a b ≡ b = let o = s.ordered in omega arith in
     let both = edge_moved_ends d is by i.is_move e h
-        (λ x y.
-             edge_between Cube d (min (move_corner d un x) (move_corner d un y)) (max (move_corner d un x) (move_corner d un y))
-                 ≡ edge_between Cube d a b)
+    (λ x y.
+    edge_between Cube d (min (move_corner d un x) (move_corner d un y)) (max (move_corner d un x) (move_corner d un y))
+    ≡ edge_between Cube d a b)
     (λ x y q. ap (λ (k : ℕ). edge_between Cube d k (max (move_corner d un y) (move_corner d un x))) (min_turned (move_corner d un y) (move_corner d un x))
     ∙ ap (edge_between Cube d (min (move_corner d un x) (move_corner d un y))) (max_turned (move_corner d un y) (move_corner d un x)) ∙ q)
     (let u : move_corner d un (move_corner d by a) ≡ a = i.there a (let o = s.ordered in let c = s.corners in omega arith) in
@@ -208,10 +208,10 @@ pub bipolar_moved : (d : ℕ) → IsDimension d → (by : Move) → IsMove d by 
     → is_bipolar_in Cube d other (move_edge d by e) ≡ is_bipolar_in Cube d label e
 bipolar_moved d is by move label other c e h =
     edge_moved_ends d is by move e h (λ x y. differ (is_set other x) (is_set other y) ≡ is_bipolar_in Cube d label e)
-        (λ x y q. differ_turned (is_set other y) (is_set other x) ∙ q)
+    (λ x y q. differ_turned (is_set other y) (is_set other x) ∙ q)
     (let s = edge_step d is e h in
     ap (λ (b : Bool). differ b (is_set other (move_corner d by (edge_ends Cube d e).1)))
-        (c.1 (edge_ends Cube d e).0 (let o = s.ordered in let k = s.corners in omega arith))
+    (c.1 (edge_ends Cube d e).0 (let o = s.ordered in let k = s.corners in omega arith))
     ∙ ap (differ (is_set label (edge_ends Cube d e).0)) (c.1 (edge_ends Cube d e).1 s.corners))
   where
     differ_turned : (a b : Bool) → differ a b ≡ differ b a
@@ -225,5 +225,5 @@ pub carried_once : (d : ℕ) (by un : Move) → AreInverse d by un → (label m 
 carried_once d by un i label m n c e =
     same_from_bits_below (2 ^ d) m n c.0 e.0
     (λ k h. same_bit m n k
-        (let j = corner-below d un k in
-        ap (is_set m) (sym (i.again k h)) ∙ c.1 (move_corner d un k) j ∙ sym (e.1 (move_corner d un k) j) ∙ ap (is_set n) (i.again k h)))
+    (let j = corner-below d un k in
+    ap (is_set m) (sym (i.again k h)) ∙ c.1 (move_corner d un k) j ∙ sym (e.1 (move_corner d un k) j) ∙ ap (is_set n) (i.again k h)))

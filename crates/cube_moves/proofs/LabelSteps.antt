@@ -62,6 +62,6 @@ one_more_moved d is by move label n moved c in_n at some so_far = record {
         → is_set (bit_or moved (1 * 2 ^ c % 2 ^ 32)) (move_corner d by k) ≡ is_set label k
     by_place k h (inl e) l =
         ap (is_set (bit_or moved (1 * 2 ^ c % 2 ^ 32))) (ap (move_corner d by) e ∙ sym at)
-            ∙ ap (λ (b : ℕ). b == 1) (bit_at_set_same w32 moved c small) ∙ sym some ∙ ap (is_set label) (sym e)
+        ∙ ap (λ (b : ℕ). b == 1) (bit_at_set_same w32 moved c small) ∙ sym some ∙ ap (is_set label) (sym e)
     by_place k h (inr (inl m)) l = ap (λ (b : ℕ). b == 1) (bit_at_set_other w32 moved c small (move_corner d by k) (other k h (inr m))) ∙ so_far.done k h m
     by_place k h (inr (inr m)) l = absurd (omega arith)

@@ -50,7 +50,7 @@ carries_rest d is axes o f label w m c e = (
       let i = corner-below d (order_alone (back d axes)) k in
       let u = goes-back d is axes o k h in
       ap (λ (n : ℕ). is_set m (move_corner d (flips_alone d f) n)) (sym u) ∙ ap (is_set m) (order_then_flips d axes f j) ∙ e.1 j i ∙ sym (c.1 j i)
-          ∙ ap (is_set w) u,
+      ∙ ap (is_set w) u,
 )
 
 -- ---- orders by their numbers
@@ -66,7 +66,7 @@ order_number d axes c = (c.0, c.1, any_default (orders d) c.0 [] axes c.1 ∙ c.
 ascend : ℕ → Bool
 ascend d =
     list_all (λ i. list_all (λ j. nat_lt i j || not (comes_before (order_of d i) (order_of d j))) (numbers (length (orders d))))
-        (numbers (length (orders d)))
+    (numbers (length (orders d)))
 
 all_ascend : (d : ℕ) → IsDimension d → ascend d ≡ true
 unfolding ascend
@@ -79,8 +79,8 @@ earlier_number d is i j in_i in_j e =
     let p : (nat_lt i j || not (comes_before (order_of d i) (order_of d j))) ≡ true =
     each_below (λ j. nat_lt i j || not (comes_before (order_of d i) (order_of d j))) (length (orders d))
     (each_below (λ i. list_all (λ j. nat_lt i j || not (comes_before (order_of d i) (order_of d j))) (numbers (length (orders d))))
-         (length (orders d)) (all_ascend d is) i in_i)
-        j in_j in
+    (length (orders d)) (all_ascend d is) i in_i)
+    j in_j in
     by_test (nat_lt i j) (comes_before (order_of d i) (order_of d j)) refl e p
   where
     by_test : (a b : Bool) → nat_lt i j ≡ a → b ≡ true → (a || not b) ≡ true → i < j
@@ -91,10 +91,10 @@ earlier_number d is i j in_i in_j e =
 differ : ℕ → Bool
 differ d =
     list_all
-        (λ i.
-             list_all (λ j. (i == j) || (comes_before (order_of d i) (order_of d j) || comes_before (order_of d j) (order_of d i)))
-                 (numbers (length (orders d))))
-        (numbers (length (orders d)))
+    (λ i.
+    list_all (λ j. (i == j) || (comes_before (order_of d i) (order_of d j) || comes_before (order_of d j) (order_of d i)))
+    (numbers (length (orders d))))
+    (numbers (length (orders d)))
 
 all_differ : (d : ℕ) → IsDimension d → differ d ≡ true
 unfolding differ
@@ -106,11 +106,11 @@ own_number d is i j in_i in_j e =
     let p : ((i == j) || (comes_before (order_of d i) (order_of d j) || comes_before (order_of d j) (order_of d i))) ≡ true =
     each_below (λ j. (i == j) || (comes_before (order_of d i) (order_of d j) || comes_before (order_of d j) (order_of d i))) (length (orders d))
     (each_below
-         (λ i.
-              list_all (λ j. (i == j) || (comes_before (order_of d i) (order_of d j) || comes_before (order_of d j) (order_of d i)))
-                  (numbers (length (orders d))))
-         (length (orders d)) (all_differ d is) i in_i)
-        j in_j in
+    (λ i.
+    list_all (λ j. (i == j) || (comes_before (order_of d i) (order_of d j) || comes_before (order_of d j) (order_of d i)))
+    (numbers (length (orders d))))
+    (length (orders d)) (all_differ d is) i in_i)
+    j in_j in
     by_test (i == j) (comes_before (order_of d i) (order_of d j)) (comes_before (order_of d j) (order_of d i)) refl refl refl p
   where
     by_test : (a b c : Bool) → (i == j) ≡ a → comes_before (order_of d i) (order_of d j) ≡ b → comes_before (order_of d j) (order_of d i) ≡ c
@@ -119,13 +119,13 @@ own_number d is i j in_i in_j e =
     by_test false true c s t u v =
         let l = earlier_number d is i j in_i in_j t in
         let same : comes_before (order_of d j) (order_of d i) ≡ true =
-            ap (λ (xs : List ℕ). comes_before xs (order_of d i)) (sym e) ∙ ap (comes_before (order_of d i)) e ∙ t in
+        ap (λ (xs : List ℕ). comes_before xs (order_of d i)) (sym e) ∙ ap (comes_before (order_of d i)) e ∙ t in
         let m = earlier_number d is j i in_j in_i same in
         absurd (omega arith)
     by_test false false true s t u v =
         let l = earlier_number d is j i in_j in_i u in
         let same : comes_before (order_of d i) (order_of d j) ≡ true =
-            ap (λ (xs : List ℕ). comes_before xs (order_of d j)) e ∙ ap (comes_before (order_of d j)) (sym e) ∙ u in
+        ap (λ (xs : List ℕ). comes_before xs (order_of d j)) e ∙ ap (comes_before (order_of d j)) (sym e) ∙ u in
         let m = earlier_number d is i j in_i in_j same in
         absurd (omega arith)
     by_test false false false s t u v = absurd (cc)
@@ -152,8 +152,8 @@ least_at_first d is some label w least flips c l = record {
   is_least = λ i f m below in_f e.
       let z : i ≡ 0 = omega arith in
       l.is_least f m in_f
-          (carries_rest d is (order_of d 0) (order_there d 0 some) f label w m c
-               (subst (λ (j : ℕ). Carries d (with_flips (order_of d j) f) label m) z e));
+      (carries_rest d is (order_of d 0) (order_there d 0 some) f label w m c
+      (subst (λ (j : ℕ). Carries d (with_flips (order_of d j) f) label m) z e));
   is_first = λ i f m below in_f e. absurd (omega arith);
   is_first_here = λ f m below e. l.is_first f m below (carries_rest d is (order_of d 0) (order_there d 0 some) f label w m c e);
 }
@@ -174,8 +174,8 @@ least_goes_on d is n in_n label w least order flips other by c l so_far less = r
     by_place : (i f m : ℕ) → f < 2 ^ d → Carries d (with_flips (order_of d i) f) label m → (i ≡ n) ⊎ ((i < n) ⊎ (n < i)) → i < n + 1 → other ≤ m
     by_place i f m in_f e (inl z) below =
         l.is_least f m in_f
-            (carries_rest d is (order_of d n) (order_there d n in_n) f label w m c
-                 (subst (λ (j : ℕ). Carries d (with_flips (order_of d j) f) label m) z e))
+        (carries_rest d is (order_of d n) (order_there d n in_n) f label w m c
+        (subst (λ (j : ℕ). Carries d (with_flips (order_of d j) f) label m) z e))
     by_place i f m in_f e (inr (inl h)) below = let k = so_far.is_least i f m h in_f e in omega arith
     by_place i f m in_f e (inr (inr h)) below = absurd (omega arith)
 
@@ -195,9 +195,9 @@ least_stays d is n in_n label w least order flips other by c l so_far more = rec
     by_place : (i f m : ℕ) → f < 2 ^ d → Carries d (with_flips (order_of d i) f) label m → (i ≡ n) ⊎ ((i < n) ⊎ (n < i)) → i < n + 1 → least ≤ m
     by_place i f m in_f e (inl z) below =
         let h =
-            l.is_least f m in_f
-                (carries_rest d is (order_of d n) (order_there d n in_n) f label w m c
-                     (subst (λ (j : ℕ). Carries d (with_flips (order_of d j) f) label m) z e)) in
+        l.is_least f m in_f
+        (carries_rest d is (order_of d n) (order_there d n in_n) f label w m c
+        (subst (λ (j : ℕ). Carries d (with_flips (order_of d j) f) label m) z e)) in
         omega arith
     by_place i f m in_f e (inr (inl h)) below = so_far.is_least i f m h in_f e
     by_place i f m in_f e (inr (inr h)) below = absurd (omega arith)

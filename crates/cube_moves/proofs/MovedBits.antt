@@ -107,8 +107,8 @@ pub flips_undone : (d f c : ℕ) → c < 2 ^ d → move_corner d (flips_alone d 
 flips_undone d f c h =
     same_from_bits_below d _ _ (corner-below d (flips_alone d f) (move_corner d (flips_alone d f) c)) h
     (λ i k.
-         flip-bit d f (move_corner d (flips_alone d f) c) i k ∙ ap (λ (b : ℕ). (b + bit_at f i) % 2) (flip-bit d f c i k)
-             ∙ twice (bit_at c i) (bit_at f i) (bit_at-lt c i))
+    flip-bit d f (move_corner d (flips_alone d f) c) i k ∙ ap (λ (b : ℕ). (b + bit_at f i) % 2) (flip-bit d f c i k)
+    ∙ twice (bit_at c i) (bit_at f i) (bit_at-lt c i))
   where
     twice : (a b : ℕ) → a < 2 → ((a + b) % 2 + b) % 2 ≡ a
     twice a b s = omega arith

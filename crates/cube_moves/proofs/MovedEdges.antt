@@ -42,7 +42,7 @@ unfolding asked
 pair_passes d p all x i in_x in_i low =
     by_test (bit_at x i == 0) (eq-eqb (bit_at x i) 0 low)
     (each_below (λ i. asked (bit_at x i == 0) (λ _. p x i)) d
-         (each_below (λ x. list_all (λ i. asked (bit_at x i == 0) (λ _. p x i)) (numbers d)) (2 ^ d) all x in_x) i in_i)
+    (each_below (λ x. list_all (λ i. asked (bit_at x i == 0) (λ _. p x i)) (numbers d)) (2 ^ d) all x in_x) i in_i)
   where
     by_test : (t : Bool) → t ≡ true → asked t (λ _. p x i) ≡ true → p x i ≡ true
     by_test true e h = h
@@ -93,7 +93,7 @@ all_flips_step : (d : ℕ) → IsDimension d → (f : ℕ) → f < 2 ^ d → fli
 unfolding flips_step asked
 all_flips_step =
     in_each_dimension (λ d. (f : ℕ) → f < 2 ^ d → flips_step d f ≡ true) (each_below (flips_step 2) 4 refl) (each_below (flips_step 3) 8 refl)
-        (each_below (flips_step 4) 16 refl)
+    (each_below (flips_step 4) 16 refl)
 
 moved_step : (d : ℕ) → IsDimension d → (axes : List ℕ) (f : ℕ) → Contains (orders d) axes → f < 2 ^ d → (i x y : ℕ) → x < 2 ^ d → y < 2 ^ d → IsStep d i x y
     → IsStep d (place_of axes i) (move_corner d (with_flips axes f) x) (move_corner d (with_flips axes f) y)
@@ -101,7 +101,7 @@ unfolding order_steps flips_step
 moved_step d is axes f o in_f i x y in_x in_y s =
     let a = step_through d (move_corner d (order_alone axes)) (place_of axes) (all_orders_step d is axes o) i x y in_x in_y s in
     let b = step_through d (move_corner d (flips_alone d f)) (λ j. j) (all_flips_step d is f in_f) (place_of axes i)
-        (move_corner d (order_alone axes) x) (move_corner d (order_alone axes) y)
+    (move_corner d (order_alone axes) x) (move_corner d (order_alone axes) y)
     (corner-below d (order_alone axes) x) (corner-below d (order_alone axes) y) a in
     subst (λ (k : ℕ). IsStep d (place_of axes i) k (move_corner d (with_flips axes f) y)) (order_then_flips d axes f x)
     (subst (λ (k : ℕ). IsStep d (place_of axes i) (move_corner d (flips_alone d f) (move_corner d (order_alone axes) x)) k) (order_then_flips d axes f y) b)
@@ -115,12 +115,12 @@ axis_of d e = position_or_len (λ i. (edge_ends Cube d e).1 == (edge_ends Cube d
 abbrev is_edge_step : ℕ → ℕ → Bool
 is_edge_step d e =
     is_step d (axis_of d e) (edge_ends Cube d e).0 (edge_ends Cube d e).1
-        && (nat_lt (edge_ends Cube d e).0 (edge_ends Cube d e).1 && nat_lt (edge_ends Cube d e).1 (2 ^ d))
+    && (nat_lt (edge_ends Cube d e).0 (edge_ends Cube d e).1 && nat_lt (edge_ends Cube d e).1 (2 ^ d))
 
 edges_step : (d : ℕ) → IsDimension d → (e : ℕ) → e < edge_count Cube d → is_edge_step d e ≡ true
 edges_step =
     in_each_dimension (λ d. (e : ℕ) → e < edge_count Cube d → is_edge_step d e ≡ true) (each_below (is_edge_step 2) 4 refl)
-        (each_below (is_edge_step 3) 12 refl) (each_below (is_edge_step 4) 32 refl)
+    (each_below (is_edge_step 3) 12 refl) (each_below (is_edge_step 4) 32 refl)
 
 pub record EdgeStep (d e : ℕ) : Type 0 where
   pub step : IsStep d (axis_of d e) (edge_ends Cube d e).0 (edge_ends Cube d e).1
@@ -130,8 +130,8 @@ pub record EdgeStep (d e : ℕ) : Type 0 where
 pub edge_step : (d : ℕ) → IsDimension d → (e : ℕ) → e < edge_count Cube d → EdgeStep d e
 edge_step d is e h =
     let p =
-        and_parts (is_step d (axis_of d e) (edge_ends Cube d e).0 (edge_ends Cube d e).1)
-            (nat_lt (edge_ends Cube d e).0 (edge_ends Cube d e).1 && nat_lt (edge_ends Cube d e).1 (2 ^ d)) (edges_step d is e h) in
+    and_parts (is_step d (axis_of d e) (edge_ends Cube d e).0 (edge_ends Cube d e).1)
+    (nat_lt (edge_ends Cube d e).0 (edge_ends Cube d e).1 && nat_lt (edge_ends Cube d e).1 (2 ^ d)) (edges_step d is e h) in
     let q = and_parts (nat_lt (edge_ends Cube d e).0 (edge_ends Cube d e).1) (nat_lt (edge_ends Cube d e).1 (2 ^ d)) p.1 in
     record {
       step = step_of d (axis_of d e) (edge_ends Cube d e).0 (edge_ends Cube d e).1 p.0;
@@ -157,8 +157,8 @@ unfolding pairs_joined
 joined_by_edge d is i x y in_x in_y s =
     let lo : ℕ = min x y in
     let p =
-        and_parts (nat_lt (edge_between Cube d lo (lo + 2 ^ i)) (edge_count Cube d)) _
-            (pair_passes d (joins d) (all_joined d is) lo i (omega arith) s.axis s.low) in
+    and_parts (nat_lt (edge_between Cube d lo (lo + 2 ^ i)) (edge_count Cube d)) _
+    (pair_passes d (joins d) (all_joined d is) lo i (omega arith) s.axis s.low) in
     let q = and_parts ((edge_ends Cube d (edge_between Cube d lo (lo + 2 ^ i))).0 == lo) _ p.1 in
     (edge_between Cube d lo (lo + 2 ^ i), ltb-true _ _ p.0, pair_same _ _ _ _ (eqb-true _ _ q.0) (eqb-true _ _ q.1 ∙ sym s.high))
   where
@@ -168,10 +168,10 @@ joined_by_edge d is i x y in_x in_y s =
 -- the moved ends of an edge are joined
 pub moved_joined : (d : ℕ) → IsDimension d → (by : Move) → IsMove d by → (e : ℕ) → e < edge_count Cube d
     → IsJoined d (min (move_corner d by (edge_ends Cube d e).0) (move_corner d by (edge_ends Cube d e).1))
-        (max (move_corner d by (edge_ends Cube d e).0) (move_corner d by (edge_ends Cube d e).1))
+    (max (move_corner d by (edge_ends Cube d e).0) (move_corner d by (edge_ends Cube d e).1))
 moved_joined d is by move e h =
     let s = edge_step d is e h in
     joined_by_edge d is (place_of by.axes (axis_of d e)) (move_corner d by (edge_ends Cube d e).0) (move_corner d by (edge_ends Cube d e).1)
     (corner-below d by (edge_ends Cube d e).0) (corner-below d by (edge_ends Cube d e).1)
     (moved_step d is by.axes by.flips move.0 move.1 (axis_of d e) (edge_ends Cube d e).0 (edge_ends Cube d e).1
-         (let a = s.ordered in let b = s.corners in omega arith) s.corners s.step)
+    (let a = s.ordered in let b = s.corners in omega arith) s.corners s.step)

@@ -257,7 +257,7 @@ put_ascends part parts up_to all =
               ∙ ap (λ (j : ℕ). (slice_index_or parts j d).edges) (sym s)
           | inr n ↦
               ap (λ (t : FaceTally). t.edges)
-                  (get_or-set_other parts (length parts - 1) k (joined (slice_index_or parts (length parts - 1) part) part) d n)
+              (get_or-set_other parts (length parts - 1) k (joined (slice_index_or parts (length parts - 1) part) part) d n)
         ]
 
     joins : IsThere (length parts - 1) part parts → AscendsBySets (put_by true (length parts - 1) part parts)

@@ -62,7 +62,7 @@ OnBelow {d} i gs slacks next n =
 abbrev pub PairsBelow : {d : ℕ} → ℕ → List (Generator d) → List ℤ → List (Generator d) → ℕ → Type 0
 PairsBelow {d} i gs slacks next n =
     (k : ℕ) (e : Generator d) → k < n → pos 0 <ℤ slice_index_or slacks k (pos 0) → (x : List ℤ) → slacks ≡ slacks_at x gs
-        → AreMeetsWithin x i (slice_index_or gs k e).tight gs next
+    → AreMeetsWithin x i (slice_index_or gs k e).tight gs next
 
 -- one place more, which has what is wanted where its slack is zero, or above
 pub on_more : (d i : ℕ) (gs : List (Generator d)) (slacks : List ℤ) (next : List (Generator d)) (n : ℕ) (g : Generator d) → n < length gs
@@ -71,18 +71,18 @@ pub on_more : (d i : ℕ) (gs : List (Generator d)) (slacks : List ℤ) (next : 
 on_more d i gs slacks next n g l s w h k e b p = elim (cases_eq k n) [
   | inl z ↦ subst (λ (j : ℕ). IsWithinSome (with_point (slice_index_or gs j e).tight i) next) (sym z)
       (subst (λ (x : Generator d). IsWithinSome (with_point x.tight i) next) (s ∙ any_default gs n g e l)
-           (w (subst (λ (j : ℕ). slice_index_or slacks j (pos 0) ≡ pos 0) z p)))
+      (w (subst (λ (j : ℕ). slice_index_or slacks j (pos 0) ≡ pos 0) z p)))
   | inr z ↦ h k e (omega arith) p
 ]
 
 pub pairs_more : (d i : ℕ) (gs : List (Generator d)) (slacks : List ℤ) (next : List (Generator d)) (n : ℕ) (g : Generator d) → n < length gs
     → g ≡ slice_index_or gs n g
     → (pos 0 <ℤ slice_index_or slacks n (pos 0) → (x : List ℤ) → slacks ≡ slacks_at x gs → AreMeetsWithin x i g.tight gs next)
-        → PairsBelow i gs slacks next n → PairsBelow i gs slacks next (n + 1)
+    → PairsBelow i gs slacks next n → PairsBelow i gs slacks next (n + 1)
 pairs_more d i gs slacks next n g l s w h k e b p x q = elim (cases_eq k n) [
   | inl z ↦ subst (λ (j : ℕ). AreMeetsWithin x i (slice_index_or gs j e).tight gs next) (sym z)
       (subst (λ (y : Generator d). AreMeetsWithin x i y.tight gs next) (s ∙ any_default gs n g e l)
-           (w (subst (λ (j : ℕ). pos 0 <ℤ slice_index_or slacks j (pos 0)) z p) x q))
+      (w (subst (λ (j : ℕ). pos 0 <ℤ slice_index_or slacks j (pos 0)) z p) x q))
   | inr z ↦ h k e (omega arith) p x q
 ]
 

@@ -56,7 +56,7 @@ less_inside k m s t v p e z h =
 
 pub next_generate : (d : ℕ) (points : List (List ℤ)) (set : ℕ) (gs next : List (Generator d)) (i : ℕ) → i < length points → Generate d points set gs
     → All (IsGenerator d points (with_point set i)) next → AreWithin (point_at points i) i gs next → HasInside (point_at points i) gs next
-        → Generate d points (with_point set i) next
+    → Generate d points (with_point set i) next
 next_generate d points set gs next i inside gen ones within stay = record {
   each = ones;
   flat = λ h wide t. gen.flat h wide (λ k b m. t k b (member_stays set i k m));
@@ -136,8 +136,8 @@ next_generate d points set gs next i inside gen ones within stay = record {
             by_side (inr n) (inr s) =
                 let t = toward d points set gs gen i inside (pos 1) less off.wide off.holds
                 (less_inside off.times off.off (slack h x) (slack (half_of g) x) (slack less x) off.off_above (off.slacks x) z
-                     (not_above (slack (half_of g) x) n s))
-                    in
+                (not_above (slack (half_of g) x) n s))
+                in
                 by_set (bit_and t.generator.tight g.tight)
                 (λ j l b e. in_both t.generator.tight g.tight j (t.covers j l b (off.keeps j l b e)) (a.4 j l b e))
                 (within.meets t.generator t.there (above_one (slack (half_of t.generator) x) t.side) g there (not_above (slack (half_of g) x) n s))
@@ -146,5 +146,5 @@ next_generate d points set gs next i inside gen ones within stay = record {
         by_slack (inl z) = at_zero z (gen.enough h wide holds (not_all z))
         by_slack (inr n) =
             by_inside n
-                (toward d points set gs gen i inside (pos 1) h wide holds
-                     (one_above (slack h x) (held_above (slack h x) (all i inside (point_added set i)) n)))
+            (toward d points set gs gen i inside (pos 1) h wide holds
+            (one_above (slack h x) (held_above (slack h x) (all i inside (point_added set i)) n)))

@@ -31,8 +31,8 @@ record IsTightMember (points : List (List ℤ)) (h : HalfSpace) (i : ℕ) : Type
 tight_member : (d : ℕ) (points : List (List ℤ)) (set : List ℕ) (f : IsFacet d points set) (i : ℕ) → IsTrue (has set i) → IsTightMember points f.half i
 tight_member d points set f i h =
     let p =
-        has_passes (λ j. same_int (slack f.half (slice_index_or points j [])) (pos 0)) (length points) i
-            (subst (λ (s : List ℕ). IsTrue (has s i)) f.tight h) in
+    has_passes (λ j. same_int (slack f.half (slice_index_or points j [])) (pos 0)) (length points) i
+    (subst (λ (s : List ℕ). IsTrue (has s i)) f.tight h) in
     record { below = p.below; tight = same_int-is (slack f.half (point_at points i)) (pos 0) p.passes }
 
 pub facet_found : (d : ℕ) → 2 ≤ d → d ≤ 4 → (points : List (List ℤ)) → All (λ p. length p ≡ d) points → (gs : List (Generator d))
@@ -40,7 +40,7 @@ pub facet_found : (d : ℕ) → 2 ≤ d → d ≤ 4 → (points : List (List ℤ
     → AreWithinAny gs found → (set : List ℕ) → IsFacet d points set → Contains found (set_number set)
 facet_found d least greatest points wide gs all found some within set f =
     tried_known d least greatest points f.basis found f.full (chosen_wide d points wide f.basis inside) some (w.0, w.1, w.2, w.3, on_facet) set f
-        f.within f.spans
+    f.within f.spans
   where
     gen : Generate d points all.set gs
     gen = all.generate
@@ -98,6 +98,6 @@ pub within_more : (d : ℕ) (gs : List (Generator d)) (old new : List ℕ) (n : 
 within_more d gs old new n g l s kept w h k e b = elim (cases_eq k n) [
   | inl z ↦
       subst (λ (j : ℕ). IsWithinAny (slice_index_or gs j e).tight new) (sym z)
-          (subst (λ (x : Generator d). IsWithinAny x.tight new) (s ∙ any_default gs n g e l) w)
+      (subst (λ (x : Generator d). IsWithinAny x.tight new) (s ∙ any_default gs n g e l) w)
   | inr z ↦ within_kept (slice_index_or gs k e).tight old new kept (h k e (omega arith))
 ]

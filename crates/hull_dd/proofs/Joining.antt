@@ -84,7 +84,7 @@ reduced-slack n b m c r x =
 
 pub joined_is : (d i : ℕ) (inside : Generator d) (above : ℤ) (outside : Generator d) (below : ℤ) (new : Generator d) → i < 48
     → IsReduced (combined above (half_of outside) below (half_of inside)).normal (combined above (half_of outside) below (half_of inside)).bound
-        new.half.normal new.half.bound
+    new.half.normal new.half.bound
     → HasSmallNumbers new → new.tight ≡ bit_or (bit_and inside.tight outside.tight) (1 * 2 ^ i % 2 ^ 64) → IsJoined d i inside above outside below new
 joined_is d i inside above outside below new few reduced small set_is points set one other l e a f b = by_divisor reduced.divisor refl
   where
@@ -103,7 +103,7 @@ joined_is d i inside above outside below new few reduced small set_is points set
     slack_is : (j : ℕ) → pos reduced.divisor *ℤ sn j ≡ above *ℤ so j -ℤ below *ℤ si j
     slack_is j =
         reduced-slack (combined above (half_of outside) below (half_of inside)).normal (combined above (half_of outside) below (half_of inside)).bound
-            new.half.normal new.half.bound reduced (point_at points j)
+        new.half.normal new.half.bound reduced (point_at points j)
         ∙ combined-slack above (half_of outside) below (half_of inside) alike (point_at points j)
 
     tight_is : new.tight ≡ with_point (bit_and inside.tight outside.tight) i
@@ -112,13 +112,13 @@ joined_is d i inside above outside below new few reduced small set_is points set
     wide : length new.half.normal ≡ d
     wide =
         sym (ap length reduced.coefficients ∙ length-map new.half.normal (λ x. pos reduced.divisor *ℤ x))
-            ∙ combined-wide above (half_of outside) below (half_of inside) d other.wide one.wide
+        ∙ combined-wide above (half_of outside) below (half_of inside) d other.wide one.wide
 
     -- where the new one is tight at each of the points, so is the one that has the point inside
     both_tight : OfSet points set (IsTight (half_of new)) → OfSet points set (IsTight (half_of inside))
     both_tight t j k m =
         first_zero above below (si j) (so j) a b (one.holds j k m) (other.holds j k m)
-            (times_zero (pos reduced.divisor) (sn j) (above *ℤ so j -ℤ below *ℤ si j) (slack_is j) (t j k m))
+        (times_zero (pos reduced.divisor) (sn j) (above *ℤ so j -ℤ below *ℤ si j) (slack_is j) (t j k m))
 
     by_divisor : (g : ℕ) → reduced.divisor ≡ g → IsGenerator d points (with_point set i) new
     by_divisor zero z = absurd (one.apart (λ j k m. first_zero above below (si j) (so j) a b (one.holds j k m) (other.holds j k m)
@@ -130,7 +130,7 @@ joined_is d i inside above outside below new few reduced small set_is points set
         | inl s ↦ subst (λ (v : ℤ). pos 0 ≤ℤ v) (sym (at_point j s)) (omega (arith, ints))
         | inr n ↦
             divided_holds g (sn j) (above *ℤ so j -ℤ below *ℤ si j) (value j)
-                (sum_holds above below (si j) (so j) a b (one.holds j k n) (other.holds j k n))
+            (sum_holds above below (si j) (so j) a b (one.holds j k n) (other.holds j k n))
       ];
       within = λ j t. elim (member_split (bit_and inside.tight outside.tight) i j (subst (λ (w : ℕ). bit_at w j ≡ 1) tight_is t)) [
         | inl s ↦ subst (λ (w : ℕ). bit_at (with_point set i) w ≡ 1) (sym s) (point_added set i)
@@ -146,7 +146,7 @@ joined_is d i inside above outside below new few reduced small set_is points set
         at_point : (j : ℕ) → j ≡ i → sn j ≡ pos 0
         at_point j s = divided_zero g (sn j) (above *ℤ so j -ℤ below *ℤ si j) (value j)
             (ap (λ (k : ℕ). above *ℤ so k -ℤ below *ℤ si k) s ∙ ap (λ (v : ℤ). above *ℤ v -ℤ below *ℤ si i) (sym f)
-                 ∙ ap (λ (v : ℤ). above *ℤ below -ℤ below *ℤ v) (sym e) ∙ crossed above below)
+            ∙ ap (λ (v : ℤ). above *ℤ below -ℤ below *ℤ v) (sym e) ∙ crossed above below)
 
         forth : (j : ℕ) → j < length points → bit_at (with_point set i) j ≡ 1 → bit_at new.tight j ≡ 1 → IsTight (half_of new) (point_at points j)
         forth j k m t = elim (member_split set i j m) [
@@ -155,7 +155,7 @@ joined_is d i inside above outside below new few reduced small set_is points set
             | inl s ↦ at_point j s
             | inr q ↦ divided_zero g (sn j) (above *ℤ so j -ℤ below *ℤ si j) (value j)
                 (zero_sum above below (si j) (so j) ((one.touches j k n).0 (in_first inside.tight outside.tight j q))
-                     ((other.touches j k n).0 (in_second inside.tight outside.tight j q)))
+                ((other.touches j k n).0 (in_second inside.tight outside.tight j q)))
           ]
         ]
 
@@ -163,7 +163,7 @@ joined_is d i inside above outside below new few reduced small set_is points set
         back j k m t = subst (λ (w : ℕ). bit_at w j ≡ 1) (sym tight_is) (elim (member_split set i j m) [
           | inl s ↦
               subst (λ (w : ℕ). bit_at (with_point (bit_and inside.tight outside.tight) i) w ≡ 1) (sym s)
-                  (point_added (bit_and inside.tight outside.tight) i)
+              (point_added (bit_and inside.tight outside.tight) i)
           | inr n ↦ (
               let r = times_zero (pos (suc g)) (sn j) (above *ℤ so j -ℤ below *ℤ si j) (value j) t in
               member_stays (bit_and inside.tight outside.tight) i j (in_both inside.tight outside.tight j

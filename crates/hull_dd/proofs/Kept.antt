@@ -20,4 +20,4 @@ All-kept d P new gs p h = by_test (is_within_some new.tight gs)
     by_test true = h
     by_test false =
         All-push P (filter (λ (g : Generator d). not (is_within g.tight new.tight)) gs) new
-            (All-filter (λ (g : Generator d). not (is_within g.tight new.tight)) P gs h) p
+        (All-filter (λ (g : Generator d). not (is_within g.tight new.tight)) P gs h) p

@@ -66,12 +66,12 @@ tight_at_all d least greatest points wide [] e inside apart l off h w t a = absu
 tight_at_all d least greatest points wide (i ∷ is) e inside apart l off h w t a =
     none_by_plane d (turn (rows_to (p ∷ ps) x)) (dot h.normal (minus x p)) h (hyper (p ∷ ps)) plane
     (λ z.
-         off
-             (negative_slack (dot (hyper (p ∷ ps)).normal x) (hyper (p ∷ ps)).bound
-                  (hyper-turn d (turn_laws d least greatest) p ps x one_less all_wide.0 all_wide.1 x_wide ∙ z)))
+    off
+    (negative_slack (dot (hyper (p ∷ ps)).normal x) (hyper (p ∷ ps)).bound
+    (hyper-turn d (turn_laws d least greatest) p ps x one_less all_wide.0 all_wide.1 x_wide ∙ z)))
     (mul-eq-zero (slack (hyper (p ∷ ps)) x) (dot h.normal (minus x p))
     (mul-comm (slack (hyper (p ∷ ps)) x) (dot h.normal (minus x p)) ∙ sym (plane.slacks x) ∙ ap (λ (c : ℤ). turn (rows_to (p ∷ ps) x) *ℤ c) a
-         ∙ mul-comm (turn (rows_to (p ∷ ps) x)) (pos 0) ∙ mul-zero_left (turn (rows_to (p ∷ ps) x)))
+    ∙ mul-comm (turn (rows_to (p ∷ ps) x)) (pos 0) ∙ mul-zero_left (turn (rows_to (p ∷ ps) x)))
     off)
   where
     p : List ℤ
@@ -104,7 +104,7 @@ pub through : (d : ℕ) → 2 ≤ d → d ≤ 4 → (points : List (List ℤ)) �
     → All (λ i. i < length points) choice → IsTightAt points choice (hyper (members points choice))
 through d least greatest points wide choice e inside =
     tight_each points choice (hyper (members points choice))
-        (own_tight d least greatest (members points choice) (length-members points choice ∙ e) (chosen_wide d points wide choice inside))
+    (own_tight d least greatest (members points choice) (length-members points choice ∙ e) (chosen_wide d points wide choice inside))
 
 turned_step : (s : ℤ) → pos 0 *ℤ s -ℤ pos 1 *ℤ s ≡ pos 0 -ℤ s
 turned_step s = ring (s ∷ []) (con (pos 0) ⊗ var 0 ⊖ con (pos 1) ⊗ var 0) (con (pos 0) ⊖ var 0) refl
@@ -119,15 +119,15 @@ pub turned-tight : (points : List (List ℤ)) (choice : List ℕ) (h : HalfSpace
     → IsTightAt points choice (combined (pos 0) h (pos 1) h)
 turned-tight points choice h t k d l =
     turned_zero (slack h (point_at points (slice_index_or choice k d)))
-        (slack (combined (pos 0) h (pos 1) h) (point_at points (slice_index_or choice k d)))
-        (turned-slack h (point_at points (slice_index_or choice k d))) (t k d l)
+    (slack (combined (pos 0) h (pos 1) h) (point_at points (slice_index_or choice k d)))
+    (turned-slack h (point_at points (slice_index_or choice k d))) (t k d l)
 
 -- ---- the generator
 
 pub opposite_is : (d : ℕ) → 2 ≤ d → d ≤ 4 → (points : List (List ℤ)) → All (λ p. length p ≡ d) points → (choice : List ℕ) → length choice ≡ d
     → All (λ i. i < length points) choice
     → (apart : ℕ) → apart < length points → (g : Generator d) → length g.half.normal ≡ d → HasSmallNumbers g → IsTightAt points choice (half_of g)
-        → pos 0 <ℤ slack (half_of g) (point_at points apart)
+    → pos 0 <ℤ slack (half_of g) (point_at points apart)
     → slack (hyper (members points choice)) (point_at points apart) ≢ pos 0 → IsSetOf choice g.tight → IsOpposite d points choice apart g
 opposite_is d least greatest points wide choice e inside apart l g w small tight above off set = record {
   wide = w;
@@ -183,7 +183,7 @@ pub this_side : (d : ℕ) (points : List (List ℤ)) (choice : List ℕ) (apart 
     → IsOpposite d points choice apart (record { half = h; tight = tight })
 this_side d points choice apart h tight t above set =
     opposite_is d t.least t.greatest points t.wide choice t.full t.inside apart t.there (record { half = h; tight = tight })
-        (half_wide d points choice apart h t)
+    (half_wide d points choice apart h t)
     (record { coefficients = AreSmall-weaken (2 ^ 21) (2 ^ 24) h.normal (omega arith) t.coefficients; constant = t.constant })
     (half_tight d points choice apart h t) above (half_off d points choice apart h t) set
 

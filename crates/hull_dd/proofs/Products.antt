@@ -34,13 +34,13 @@ products p x q y hp hx hq hy =
     let sf = product_small p x hp hx in
     let ss = product_small q y hq hy in
     let small : IsSmall (2 ^ 62) (p *ℤ x -ℤ q *ℤ y) =
-        small-weaken (2 ^ 60 + 2 ^ 60) (2 ^ 62) (p *ℤ x -ℤ q *ℤ y) (small-sub (2 ^ 60) (2 ^ 60) (p *ℤ x) (q *ℤ y) sf ss) (omega arith) in
+    small-weaken (2 ^ 60 + 2 ^ 60) (2 ^ 62) (p *ℤ x -ℤ q *ℤ y) (small-sub (2 ^ 60) (2 ^ 60) (p *ℤ x) (q *ℤ y) sf ss) (omega arith) in
     let bf : back (back p *ℤ back x) ≡ p *ℤ x = ap back ef ∙ small-back (2 ^ 60) (p *ℤ x) (lit< tt) sf in
     let bs : back (back q *ℤ back y) ≡ q *ℤ y = ap back es ∙ small-back (2 ^ 60) (q *ℤ y) (lit< tt) ss in
     let whole : back (back p *ℤ back x) -ℤ back (back q *ℤ back y) ≡ p *ℤ x -ℤ q *ℤ y =
-        ap (λ (z : ℤ). z -ℤ back (back q *ℤ back y)) bf ∙ ap (λ (z : ℤ). p *ℤ x -ℤ z) bs in
+    ap (λ (z : ℤ). z -ℤ back (back q *ℤ back y)) bf ∙ ap (λ (z : ℤ). p *ℤ x -ℤ z) bs in
     let value : back (back (back p *ℤ back x) -ℤ back (back q *ℤ back y)) ≡ p *ℤ x -ℤ q *ℤ y =
-        ap back whole ∙ small-back (2 ^ 62) (p *ℤ x -ℤ q *ℤ y) (lit< tt) small in
+    ap back whole ∙ small-back (2 ^ 62) (p *ℤ x -ℤ q *ℤ y) (lit< tt) small in
     record {
       first = subst (FitsSigned w64) (sym ef) (small-fits (2 ^ 60) (p *ℤ x) sf (lit< tt));
       second = subst (FitsSigned w64) (sym es) (small-fits (2 ^ 60) (q *ℤ y) ss (lit< tt));
@@ -64,7 +64,7 @@ scaled_at p (x ∷ xs) (suc k) h = scaled_at p xs k (omega arith)
 -- a row that has at each place the difference of the products is the difference of the scaled rows
 pub row_is : (p q : ℤ) (row xs ys : List ℤ) → length row ≡ length xs → length xs ≡ length ys
     → ((k : ℕ) → k < length xs → get_or row k (pos 0) ≡ p *ℤ get_or xs k (pos 0) -ℤ q *ℤ get_or ys k (pos 0))
-        → row ≡ minus (map (λ x. p *ℤ x) xs) (map (λ x. q *ℤ x) ys)
+    → row ≡ minus (map (λ x. p *ℤ x) xs) (map (λ x. q *ℤ x) ys)
 row_is p q row xs ys e f h =
     let lx = length-map xs (λ x. p *ℤ x) in
     let ly = length-map ys (λ x. q *ℤ x) in

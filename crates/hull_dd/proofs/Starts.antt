@@ -67,12 +67,11 @@ pub whole_other : (choice : List ℕ) (set k : ℕ) → k < length choice → Is
 whole_other choice set k l h = record {
   split = λ j m. elim (member_split set 0 j m) [
     | inl s ↦
-        inr
-            (
-              k,
-              omega (arith, length-set choice k 0),
-              sym (any_default (slice_set choice k 0) k 0 j (omega (arith, length-set choice k 0))) ∙ get_or-set_same choice k 0 0 l ∙ sym s
-            )
+        inr (
+          k,
+          omega (arith, length-set choice k 0),
+          sym (any_default (slice_set choice k 0) k 0 j (omega (arith, length-set choice k 0))) ∙ get_or-set_same choice k 0 0 l ∙ sym s,
+        )
     | inr n ↦ kept j ((h j).0 n)
   ];
   chosen = λ j c. elim (cases_eq c.0 k) [
@@ -99,16 +98,16 @@ pub record HasOpposites (d : ℕ) (points : List (List ℤ)) (choice : List ℕ)
 
 all_or_some : (h : HalfSpace) (points : List (List ℤ)) (choice : List ℕ) (n : ℕ)
     → ((k : ℕ) → k < n → IsTight h (point_at points (slice_index_or choice k 0)))
-        ⊎ ((k : ℕ) × (k < n) × ¬ (IsTight h (point_at points (slice_index_or choice k 0))))
+    ⊎ ((k : ℕ) × (k < n) × ¬ (IsTight h (point_at points (slice_index_or choice k 0))))
 all_or_some h points choice zero = inl (λ k l. absurd (omega arith))
 all_or_some h points choice (suc n) = next (all_or_some h points choice n) (is_zero (slack h (point_at points (slice_index_or choice n 0))))
   where
     next :
         (((k : ℕ) → k < n → IsTight h (point_at points (slice_index_or choice k 0)))
-             ⊎ ((k : ℕ) × (k < n) × ¬ (IsTight h (point_at points (slice_index_or choice k 0)))))
+        ⊎ ((k : ℕ) × (k < n) × ¬ (IsTight h (point_at points (slice_index_or choice k 0)))))
         → (IsTight h (point_at points (slice_index_or choice n 0))) ⊎ ¬ (IsTight h (point_at points (slice_index_or choice n 0)))
         → ((k : ℕ) → k < suc n → IsTight h (point_at points (slice_index_or choice k 0)))
-            ⊎ ((k : ℕ) × (k < suc n) × ¬ (IsTight h (point_at points (slice_index_or choice k 0))))
+        ⊎ ((k : ℕ) × (k < suc n) × ¬ (IsTight h (point_at points (slice_index_or choice k 0))))
     next (inr s) t = inr (s.0, omega (arith, s.1), s.2)
     next (inl a) (inr t) = inr (n, omega arith, t)
     next (inl a) (inl t) = inl (λ k l. elim (cases_eq k n) [
@@ -129,26 +128,25 @@ start_generates d points choice set gs is_set o inside some = record {
     at_chosen : (h : HalfSpace) → OfSet points (with_point set 0) (IsTight h) → IsTightAt points choice h
     at_chosen h t k e l =
         t (slice_index_or choice k e) (inside k e l)
-            (member_stays set 0 (slice_index_or choice k e)
-                 ((is_set (slice_index_or choice k e)).1 (k, l, any_default choice k (slice_index_or choice k e) e l)))
+        (member_stays set 0 (slice_index_or choice k e)
+        ((is_set (slice_index_or choice k e)).1 (k, l, any_default choice k (slice_index_or choice k e) e l)))
 
     by_others : (h : HalfSpace) → ¬ (OfSet points (with_point set 0) (IsTight h)) → IsTight h (point_at points 0)
         → ((k : ℕ) → k < length choice → IsTight h (point_at points (slice_index_or choice k 0)))
-            ⊎ ((k : ℕ) × (k < length choice) × ¬ (IsTight h (point_at points (slice_index_or choice k 0))))
+        ⊎ ((k : ℕ) × (k < length choice) × ¬ (IsTight h (point_at points (slice_index_or choice k 0))))
         → Any (IsCoveredBy points (with_point set 0) h) gs
     by_others h loose z (inl all) = absurd (loose (λ j l m. elim (member_split set 0 j m) [
       | inl s ↦ subst (λ (i : ℕ). IsTight h (point_at points i)) (sym s) z
       | inr n ↦ (let c = (is_set j).0 n in subst (λ (i : ℕ). IsTight h (point_at points i)) (any_default choice c.0 0 j c.1 ∙ c.2) (all c.0 c.1))
     ]))
     by_others h loose z (inr s) =
-        let a = o.others s.0 s.1 in
-        (
+        let a = o.others s.0 s.1 in (
           a.0,
           a.1,
           a.2,
           a.3,
           opposite_covers d points (slice_set choice s.0 0) (slice_index_or choice s.0 0) (with_point set 0) a.1
-              (whole_other choice set s.0 s.1 is_set) a.4 h s.2
+              (whole_other choice set s.0 s.1 is_set) a.4 h s.2,
         )
 
     covered : (h : HalfSpace) → ¬ (OfSet points (with_point set 0) (IsTight h)) → (IsTight h (point_at points 0)) ⊎ ¬ (IsTight h (point_at points 0))
@@ -167,9 +165,9 @@ opposites_first d points choice gs g l o e = subst (HasOpposites d points choice
   others = λ k b. absurd (omega arith);
   each =
       λ set h.
-          All-cons (IsGenerator d points (with_point set 0)) g []
-              (opposite_generator d points choice 0 (with_point set 0) g l (whole_first choice set h) o)
-              (All-nil (IsGenerator d points (with_point set 0)));
+      All-cons (IsGenerator d points (with_point set 0)) g []
+      (opposite_generator d points choice 0 (with_point set 0) g l (whole_first choice set h) o)
+      (All-nil (IsGenerator d points (with_point set 0)));
 })
 
 any_pushed : {X : Type 0} (P : X → Type 0) (xs : List X) (y : X) → Any P xs → Any P (xs ++ y ∷ [])
@@ -178,7 +176,7 @@ any_pushed P xs y a = let c = Contains-append_left xs (y ∷ []) a.1 (a.0, a.2, 
 pub opposites_more : (d : ℕ) (points : List (List ℤ)) (choice : List ℕ) (gs after : List (Generator d)) (k : ℕ) (g : Generator d) → k < length choice
     → All (λ i. i < length points) choice
     → IsOpposite d points (slice_set choice k 0) (slice_index_or choice k 0) g → HasOpposites d points choice k gs → after ≡ gs ++ g ∷ []
-        → HasOpposites d points choice (k + 1) after
+    → HasOpposites d points choice (k + 1) after
 opposites_more d points choice gs after k g l inside o h e = subst (HasOpposites d points choice (k + 1)) (sym e) (record {
   first = any_pushed (IsOpposite d points choice 0) gs g h.first;
   others = λ j b. elim (cases_eq j k) [

@@ -148,7 +148,7 @@ not_zero_test slacks k n e = n (ap (of_z w64) e)
 pub touch_more : (d i : ℕ) (gs : List (Generator d)) (slacks : List ℤ) (old before after : List (Generator d)) (k : ℕ) (g : Generator d) → i < 48
     → KeepsOnes d i gs slacks old before
     → k < length gs → g ≡ slice_index_or gs k g → slice_index_or slacks k (pos 0) ≡ pos 0 → after ≡ kept_with (touched i g) before
-        → KeepsOnes d i gs slacks old after
+    → KeepsOnes d i gs slacks old after
 touch_more d i gs slacks old before after k g few keeps l s z e points set m ones =
     subst (All (IsGenerator d points (with_point set i))) (sym e)
     (All-kept d (IsGenerator d points (with_point set i)) (touched i g) before
@@ -159,7 +159,7 @@ pub join_more : (d i : ℕ) (inside : Generator d) (above : ℤ) (gs : List (Gen
     (k : ℕ) (g new : Generator d)
     → KeepsOnesWith d i inside above gs slacks old before
     → k < length gs → g ≡ slice_index_or gs k g → slice_index_or slacks k (pos 0) <ℤ pos 0
-        → IsJoined d i inside above g (slice_index_or slacks k (pos 0)) new → after ≡ kept_with new before
+    → IsJoined d i inside above g (slice_index_or slacks k (pos 0)) new → after ≡ kept_with new before
     → KeepsOnesWith d i inside above gs slacks old after
 join_more d i inside above gs slacks old before after k g new keeps l s z joined e points set m one a p ones =
     subst (All (IsGenerator d points (with_point set i))) (sym e)
@@ -170,7 +170,7 @@ join_more d i inside above gs slacks old before after k g new keeps l s z joined
 pub join_all_more : (d i : ℕ) (gs : List (Generator d)) (slacks : List ℤ) (old before after : List (Generator d)) (k : ℕ) (g : Generator d)
     → KeepsOnes d i gs slacks old before
     → k < length gs → g ≡ slice_index_or gs k g → pos 0 <ℤ slice_index_or slacks k (pos 0)
-        → KeepsOnesWith d i g (slice_index_or slacks k (pos 0)) gs slacks before after → KeepsOnes d i gs slacks old after
+    → KeepsOnesWith d i g (slice_index_or slacks k (pos 0)) gs slacks before after → KeepsOnes d i gs slacks old after
 join_all_more d i gs slacks old before after k g keeps l s z more points set m ones =
     more points set m (one_here d points set i gs slacks m k g l s) (slack_here d (point_at points i) gs slacks m.measured k g l s) z (keeps points set m ones)
 
@@ -181,7 +181,7 @@ stay_more d i gs slacks old before after k g keeps l s z e points set m ones =
     subst (All (IsGenerator d points (with_point set i))) (sym e)
     (All-push (IsGenerator d points (with_point set i)) before g (keeps points set m ones)
     (stays_is d points set i g (one_here d points set i gs slacks m k g l s)
-        (subst (λ (v : ℤ). pos 0 <ℤ v) (slack_here d (point_at points i) gs slacks m.measured k g l s) z)))
+    (subst (λ (v : ℤ). pos 0 <ℤ v) (slack_here d (point_at points i) gs slacks m.measured k g l s) z)))
 
 -- ---- the slacks, one by one
 
@@ -198,7 +198,7 @@ slacks_more d x gs slacks after k g s l e h f z =
 pub slack_small : (n p : List ℤ) (b : ℤ) → length p ≤ 4 → AreSmall (2 ^ 24) n → AreSmall 32 p → IsSmall (2 ^ 28) b → IsSmall (2 ^ 32) (b -ℤ dot n p)
 slack_small n p b few h k q =
     small-weaken (2 ^ 28 + length p * (2 ^ 24 * 32)) (2 ^ 32) (b -ℤ dot n p)
-        (small-sub (2 ^ 28) (length p * (2 ^ 24 * 32)) b (dot n p) q (small-dot (2 ^ 24) 32 n p h k)) (omega arith)
+    (small-sub (2 ^ 28) (length p * (2 ^ 24 * 32)) b (dot n p) q (small-dot (2 ^ 24) 32 n p h k)) (omega arith)
 
 -- ---- the generators that have the point inside
 
@@ -215,7 +215,7 @@ pub inside_more : (d : ℕ) (gs : List (Generator d)) (slacks : List ℤ) (next 
 inside_more d gs slacks next n g l s h k e b p = elim (cases_eq k n) [
   | inl z ↦
       subst (λ (j : ℕ). Contains (next ++ g ∷ []) (slice_index_or gs j e)) (sym z)
-          (subst (Contains (next ++ g ∷ [])) (s ∙ any_default gs n g e l) (Contains-push next g))
+      (subst (Contains (next ++ g ∷ [])) (s ∙ any_default gs n g e l) (Contains-push next g))
   | inr z ↦ Contains-append_left next (g ∷ []) (slice_index_or gs k e) (h k e (omega arith) p)
 ]
 

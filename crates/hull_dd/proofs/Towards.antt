@@ -146,8 +146,8 @@ taken_off d points set h g wide holds gen covered = by_least (least set H G (len
           off_above = (let n : ¬ (H k.place ≡ 0) = λ z. not_tight (nat_abs-zero (slack h (point_at points k.place)) z) in omega arith);
           holds =
               λ j l b.
-                  subst (λ (v : ℤ). pos 0 ≤ℤ v) (sym (value (G k.place) (H k.place) j l b))
-                      (taken_holds (G k.place) (H j) (H k.place) (G j) (k.least j l b));
+              subst (λ (v : ℤ). pos 0 ≤ℤ v) (sym (value (G k.place) (H k.place) j l b))
+              (taken_holds (G k.place) (H j) (H k.place) (G j) (k.least j l b));
           place = k.place;
           below = k.below;
           member = k.member;
@@ -181,7 +181,7 @@ MoreTight {d} points set gs i σ h = (less : HalfSpace) → length less.normal �
 toward_next : (d : ℕ) (points : List (List ℤ)) (set : ℕ) (gs : List (Generator d)) → Generate d points set gs → (i : ℕ) → i < length points → (σ : ℤ)
     → (h : HalfSpace)
     → length h.normal ≡ d → OfSet points set (Holds h) → pos 0 <ℤ (σ *ℤ slack h (point_at points i)) → MoreTight points set gs i σ h
-        → Toward points set gs i σ h
+    → Toward points set gs i σ h
 toward_next d points set gs gen i inside σ h wide holds side again = by_side (above_or_not (σ *ℤ slack (half_of g) (point_at points i)))
   where
     a : Any (IsCoveredBy points set h) gs
@@ -208,8 +208,8 @@ toward_next d points set gs gen i inside σ h wide holds side again = by_side (a
     less_side s =
         subst (λ (v : ℤ). pos 0 <ℤ v)
         (sym
-             (ap (λ (v : ℤ). σ *ℤ v) (off.slacks (point_at points i))
-                  ∙ side_parts σ (pos off.times) (pos off.off) (slack h (point_at points i)) (slack (half_of g) (point_at points i))))
+        (ap (λ (v : ℤ). σ *ℤ v) (off.slacks (point_at points i))
+        ∙ side_parts σ (pos off.times) (pos off.off) (slack h (point_at points i)) (slack (half_of g) (point_at points i))))
         (positive off.times off.off (σ *ℤ slack h (point_at points i)) (σ *ℤ slack (half_of g) (point_at points i)) off.times_above side s)
 
     by_side : (pos 0 <ℤ (σ *ℤ slack (half_of g) (point_at points i))) ⊎ ((σ *ℤ slack (half_of g) (point_at points i)) ≤ℤ pos 0) → Toward points set gs i σ h
@@ -224,7 +224,7 @@ toward_next d points set gs gen i inside σ h wide holds side again = by_side (a
 toward_by : (d : ℕ) (points : List (List ℤ)) (set : ℕ) (gs : List (Generator d)) → Generate d points set gs → (i : ℕ) → i < length points → (σ : ℤ)
     → (n : ℕ) → (h : HalfSpace)
     → length h.normal ≡ d → OfSet points set (Holds h) → pos 0 <ℤ (σ *ℤ slack h (point_at points i)) → count (loose points set h) (length points) ≤ n
-        → Toward points set gs i σ h
+    → Toward points set gs i σ h
 toward_by d points set gs gen i inside σ zero h wide holds side few =
     toward_next d points set gs gen i inside σ h wide holds side (λ less w k s c. absurd (omega arith))
 toward_by d points set gs gen i inside σ (suc n) h wide holds side few =

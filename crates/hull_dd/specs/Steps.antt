@@ -35,7 +35,7 @@ abbrev pub IsJoined : (d i : ℕ) → Generator d → ℤ → Generator d → �
 IsJoined d i inside above outside below new =
     (points : List (List ℤ)) (set : ℕ) → IsGenerator d points set inside → IsGenerator d points set outside → i < length points
     → above ≡ slack (half_of inside) (point_at points i) → pos 0 <ℤ above → below ≡ slack (half_of outside) (point_at points i) → below <ℤ pos 0
-        → IsGenerator d points (with_point set i) new
+    → IsGenerator d points (with_point set i) new
 
 -- the generators are those of a set of points, and these are the slacks of point i in them
 pub record AreMeasured (d : ℕ) (points : List (List ℤ)) (set i : ℕ) (gs : List (Generator d)) (slacks : List ℤ) : Type 0 where
@@ -47,13 +47,13 @@ pub record AreMeasured (d : ℕ) (points : List (List ℤ)) (set i : ℕ) (gs : 
 abbrev pub KeepsOnes : (d i : ℕ) → List (Generator d) → List ℤ → List (Generator d) → List (Generator d) → Type 0
 KeepsOnes d i gs slacks old new =
     (points : List (List ℤ)) (set : ℕ) → AreMeasured d points set i gs slacks → All (IsGenerator d points (with_point set i)) old
-        → All (IsGenerator d points (with_point set i)) new
+    → All (IsGenerator d points (with_point set i)) new
 
 -- the same with one generator that has the point inside
 abbrev pub KeepsOnesWith : (d i : ℕ) → Generator d → ℤ → List (Generator d) → List ℤ → List (Generator d) → List (Generator d) → Type 0
 KeepsOnesWith d i inside above gs slacks old new =
     (points : List (List ℤ)) (set : ℕ) → AreMeasured d points set i gs slacks → IsGenerator d points set inside
-        → above ≡ slack (half_of inside) (point_at points i) → pos 0 <ℤ above
+    → above ≡ slack (half_of inside) (point_at points i) → pos 0 <ℤ above
     → All (IsGenerator d points (with_point set i)) old → All (IsGenerator d points (with_point set i)) new
 
 -- generators of a set of points give these of the set with point i

@@ -123,12 +123,12 @@ no_end = refl
 -- two's complement of two bytes, the high one first
 signed_samples :
     samples_of (record { sizes = 2 ∷ 2 ∷ []; width = 2; signed = true; big = true }) 4 (0xff ∷ 0xfb ∷ 0 ∷ 0 ∷ 0xff ∷ 0xfb ∷ 0 ∷ 5 ∷ [])
-        ≡ negsuc 4 ∷ pos 0 ∷ negsuc 4 ∷ pos 5 ∷ []
+    ≡ negsuc 4 ∷ pos 0 ∷ negsuc 4 ∷ pos 5 ∷ []
 signed_samples = refl
 
 little_samples :
     samples_of (record { sizes = 2 ∷ 1 ∷ []; width = 4; signed = false; big = false }) 2 (1 ∷ 2 ∷ 0 ∷ 0 ∷ 0 ∷ 0 ∷ 0 ∷ 0x80 ∷ [])
-        ≡ pos 513 ∷ pos 2147483648 ∷ []
+    ≡ pos 513 ∷ pos 2147483648 ∷ []
 little_samples = refl
 
 -- ---- whole files
@@ -209,7 +209,7 @@ last_line text = lines_fault (plain ++ text ∷ [])
 -- whatever its value is
 last_lines : map last_line (codes "type: nothing" ∷ codes "line  skip: 9" ∷ codes "byteskip:" ∷ codes "datafile:" ∷ codes "endian: middle" ∷ codes "LINESKIP: 1" ∷ codes "spacings: x" ∷ codes "\r" ∷ [])
     ≡ Some (repeated_field 6) ∷ None ∷ Some (wrong_skip 6) ∷ Some (detached_data 6) ∷ Some (wrong_endian 6) ∷ Some (wrong_skip 6) ∷ None
-        ∷ Some (unreadable_line 6) ∷ []
+    ∷ Some (unreadable_line 6) ∷ []
 unfolding lines_fault
 last_lines = refl
 

@@ -90,8 +90,8 @@ clean_content f earlier n unreadable v e s = absurd (cc)
 clean_content f earlier n (named_field name value) v e s =
     let k = named_cases (field_name f) name value v (same_list name (field_name f)) ((bytes_eq-Decides name (field_name f)).0) s in
     clean_field f earlier n v
-        (subst (λ (w : List ℕ). content_fault earlier n (named_field (field_name f) w) ≡ None) k.1
-             (subst (λ (m : List ℕ). content_fault earlier n (named_field m value) ≡ None) k.0 e))
+    (subst (λ (w : List ℕ). content_fault earlier n (named_field (field_name f) w) ≡ None) k.1
+    (subst (λ (m : List ℕ). content_fault earlier n (named_field m value) ≡ None) k.0 e))
 
 -- ---- all lines
 
@@ -133,7 +133,7 @@ once_cases {X} {V} g default taken x xs once later (Some v) e =
       v,
       ap (λ (vs : List V). v ∷ vs) (filter_map-none g default xs (λ j w l s.
           empty_not v (filter_map g (take j xs))
-              (subst (λ (o : Option V). is_empty (cons_option o (filter_map g (take j xs))) ≡ true) e ((once (suc j) w (omega arith) s).0)))),
+          (subst (λ (o : Option V). is_empty (cons_option o (filter_map g (take j xs))) ≡ true) e ((once (suc j) w (omega arith) s).0)))),
       (once 0 v (omega arith) e).1,
     )
 
@@ -226,12 +226,12 @@ module _ (texts : List (List ℕ)) (s : Sample) (d : ℕ) (ns : List ℕ) where
       let b : sizes_of (first_value Sizes texts) ≡ Some ns = ap (λ (vs : List (List ℕ)). sizes_of (slice_index_or vs 0 [])) ez ∙ sz in
       let r : GridFault = wrong_sizes (line_of (field_name Sizes) texts) in
       let g =
-          subst
-              (λ (o : Option ℕ).
-                   (if option_map_or (λ d. option_map_or (λ (ns : List ℕ). length ns == d) (sizes_of (first_value Sizes texts)) true) o true then None
-                        else Some r)
-                       ≡ None)
-              a count in
+      subst
+      (λ (o : Option ℕ).
+      (if option_map_or (λ d. option_map_or (λ (ns : List ℕ). length ns == d) (sizes_of (first_value Sizes texts)) true) o true then None
+      else Some r)
+      ≡ None)
+      a count in
       let g' = subst (λ (o : Option (List ℕ)). (if option_map_or (λ (ns : List ℕ). length ns == d) o true then None else Some r) ≡ None) b g in
       sym (equal_of (length ns) d (then_none (length ns == d) r g'))
 
@@ -310,7 +310,7 @@ first_some-range_none : {X : Type 0} (f : ℕ → Option X) (a n : ℕ) → ((i 
 first_some-range_none f a zero h = refl
 first_some-range_none f a (suc n) h =
     first_some-cons (f a) (map f (range_with_len (a + 1) n)) (h a (omega arith) (omega arith))
-        (first_some-range_none f (a + 1) n (λ i l m. h i (omega arith) (omega arith)))
+    (first_some-range_none f (a + 1) n (λ i l m. h i (omega arith) (omega arith)))
 
 read_cases : (same first taken : Bool) (r w : GridFault) → (same ≡ true → (first ≡ true) × (taken ≡ true))
     → (if not same then None else if not first then Some r else if taken then None else Some w) ≡ None
@@ -336,8 +336,8 @@ content_none earlier n unreadable s h = absurd (false≢true s)
 content_none earlier n (named_field name value) s h =
     content_cases (is_among skip_names name) (is_zero value) (is_among data_file_names name) _ _ _ s
     (first_some-cons _ _ (read SampleType)
-         (first_some-cons _ _ (read Dimension)
-              (first_some-cons _ _ (read Sizes) (first_some-cons _ _ (read Encoding) (first_some-cons _ _ (read Endian) refl)))))
+    (first_some-cons _ _ (read Dimension)
+    (first_some-cons _ _ (read Sizes) (first_some-cons _ _ (read Encoding) (first_some-cons _ _ (read Endian) refl)))))
   where
     read : (f : Field) → read_fault earlier n name value f ≡ None
     read f = read_cases (same_list name (field_name f)) (is_empty (values (field_name f) earlier)) (is_taken f value) _ _
@@ -411,15 +411,15 @@ equal_refl n = grind (arith, nat_tests)
 counted_none : (texts : List (List ℕ)) (h : Header) → SpellHeader texts h → count_fault texts ≡ None
 counted_none texts h s =
     let a : dimension_of (first_value Dimension texts) ≡ Some (length h.sizes) =
-        ap (λ (vs : List (List ℕ)). dimension_of (slice_index_or vs 0 [])) s.dimension.1 ∙ s.dimension.2 in
+    ap (λ (vs : List (List ℕ)). dimension_of (slice_index_or vs 0 [])) s.dimension.1 ∙ s.dimension.2 in
     let b : sizes_of (first_value Sizes texts) ≡ Some h.sizes = ap (λ (vs : List (List ℕ)). sizes_of (slice_index_or vs 0 [])) s.sizes.1 ∙ s.sizes.2 in
     let r : GridFault = wrong_sizes (line_of (field_name Sizes) texts) in
     subst
-        (λ (o : Option ℕ).
-             (if option_map_or (λ d. option_map_or (λ (ns : List ℕ). length ns == d) (sizes_of (first_value Sizes texts)) true) o true then None else
-                  Some r)
-                 ≡ None)
-        (sym a)
+    (λ (o : Option ℕ).
+    (if option_map_or (λ d. option_map_or (λ (ns : List ℕ). length ns == d) (sizes_of (first_value Sizes texts)) true) o true then None else
+    Some r)
+    ≡ None)
+    (sym a)
     (subst (λ (o : Option (List ℕ)). (if option_map_or (λ (ns : List ℕ). length ns == length h.sizes) o true then None else Some r) ≡ None) (sym b)
     (subst (λ (b : Bool). (if b then None else Some r) ≡ None) (sym (equal_refl (length h.sizes))) refl))
 
@@ -461,8 +461,8 @@ same_order texts h k a b w = elim a.endian as (λ _. h.big ≡ k.big) [
     | inl q ↦ absurd (cc)
     | inr q ↦
         p.4
-            ∙ ap (λ (c : Bool). nat_lt 1 h.width && c)
-                  (same_Some p.1 q.1 (same_read big_endian_of (values (field_name Endian) texts) p.0 q.0 p.1 q.1 p.2 q.2 p.3 q.3))
+        ∙ ap (λ (c : Bool). nat_lt 1 h.width && c)
+        (same_Some p.1 q.1 (same_read big_endian_of (values (field_name Endian) texts) p.0 q.0 p.1 q.1 p.2 q.2 p.3 q.3))
         ∙ ap (λ (n : ℕ). nat_lt 1 n && q.1) w ∙ sym q.4
   ]
 ]
@@ -471,9 +471,9 @@ same_order texts h k a b w = elim a.endian as (λ _. h.big ≡ k.big) [
 pub one_spelling : (texts : List (List ℕ)) (h k : Header) → SpellHeader texts h → SpellHeader texts k → h ≡ k
 one_spelling texts h k a b =
     let s =
-        same_Some _ _
-            (same_read sample_of (values (field_name SampleType) texts) a.sample_type.0 b.sample_type.0 _ _ a.sample_type.1 b.sample_type.1
-                 a.sample_type.2 b.sample_type.2) in
+    same_Some _ _
+    (same_read sample_of (values (field_name SampleType) texts) a.sample_type.0 b.sample_type.0 _ _ a.sample_type.1 b.sample_type.1
+    a.sample_type.2 b.sample_type.2) in
     let n = same_Some _ _ (same_read sizes_of (values (field_name Sizes) texts) a.sizes.0 b.sizes.0 _ _ a.sizes.1 b.sizes.1 a.sizes.2 b.sizes.2) in
     let w : h.width ≡ k.width = ap (λ (t : Sample). t.width) s in
     let g : h.signed ≡ k.signed = ap (λ (t : Sample). t.signed) s in

@@ -63,8 +63,8 @@ same_line : (t u : List ℕ) (r s : Bool) (x y : List ℕ) → is_line (record {
 same_line t u true true x y a b e =
     let p = before_feed (t ++ 13 ∷ []) (u ++ 13 ∷ []) x y (has-return t (no_feed t true a)) (has-return u (no_feed u true b))
     (append_assoc t (13 ∷ []) (10 ∷ x) ∙ sym (append_assoc t (13 ∷ 10 ∷ []) x) ∙ e ∙ append_assoc u (13 ∷ 10 ∷ []) y
-         ∙ sym (append_assoc u (13 ∷ []) (10 ∷ y)))
-        in
+    ∙ sym (append_assoc u (13 ∷ []) (10 ∷ y)))
+    in
     (same_before_return t u p.0, p.1)
 same_line t u true false x y a b e =
     let p = before_feed (t ++ 13 ∷ []) u x y (has-return t (no_feed t true a)) (no_feed u false b)
@@ -87,7 +87,7 @@ first_line : (l m : Line) (ls ms : List Line) (x y : List ℕ) → AllPass is_li
     → (l.text ≡ m.text) × (flat_map line_bytes ls ++ x ≡ flat_map line_bytes ms ++ y)
 first_line l m ls ms x y a b e =
     same_line l.text m.text l.has_return m.has_return (flat_map line_bytes ls ++ x) (flat_map line_bytes ms ++ y) (pass_head is_line l ls a)
-        (pass_head is_line m ms b)
+    (pass_head is_line m ms b)
     (sym (append_assoc (line_bytes l) (flat_map line_bytes ls) x) ∙ e ∙ append_assoc (line_bytes m) (flat_map line_bytes ms) y)
 
 not_filled : (u : List ℕ) (us : List (List ℕ)) → AllPass is_filled (u ∷ us) → u ≡ [] → ⊥
@@ -110,8 +110,8 @@ same_lines (l ∷ ls) (m ∷ ms) (t ∷ ts) [] x y a b r s f g e =
 same_lines (l ∷ ls) (m ∷ ms) (t ∷ ts) (u ∷ us) x y a b r s f g e =
     let p = first_line l m ls ms x y a b e in
     let q =
-        same_lines ls ms ts us x y (pass_tail is_line l ls a) (pass_tail is_line m ms b) (ap (drop 1) r) (ap (drop 1) s) (pass_tail is_filled t ts f)
-            (pass_tail is_filled u us g) p.1 in
+    same_lines ls ms ts us x y (pass_tail is_line l ls a) (pass_tail is_line m ms b) (ap (drop 1) r) (ap (drop 1) s) (pass_tail is_filled t ts f)
+    (pass_tail is_filled u us g) p.1 in
     let h : t ≡ u = sym (same_head l.text t _ _ r) ∙ p.0 ∙ same_head m.text u _ _ s in
     let k = q.0 in
     (cc, q.1)

@@ -84,15 +84,15 @@ cube_spot = refl
 
 hypercube_spot :
     mesh_text 4
-        (placed_mesh (plain Cube (2 ∷ 2 ∷ 2 ∷ 2 ∷ []) (spot 15) (pos 5))
-             (record { kind = Cube; dimension = 4; entries = [] ∷ ((0 ∷ 1 ∷ 4 ∷ 12 ∷ []) ∷ []) ∷ [] }))
+    (placed_mesh (plain Cube (2 ∷ 2 ∷ 2 ∷ 2 ∷ []) (spot 15) (pos 5))
+    (record { kind = Cube; dimension = 4; entries = [] ∷ ((0 ∷ 1 ∷ 4 ∷ 12 ∷ []) ∷ []) ∷ [] }))
     ≡ codes "nOFF\n4\n4 1 0\n0.500000 0.000000 0.000000 0.000000\n0.000000 0.500000 0.000000 0.000000\n0.000000 0.000000 0.500000 0.000000\n0.000000 0.000000 0.000000 0.500000\n4 0 1 2 3\n"
 unfolding digits placed_mesh bipolar_edges cells label_of value_at crossing mesh_text
 hypercube_spot = refl
 
 triangles_spot :
     mesh_text 2
-        (placed_mesh (plain Simplex (2 ∷ 2 ∷ []) (spot 3) (pos 5)) (record { kind = Simplex; dimension = 2; entries = [] ∷ ((0 ∷ 1 ∷ []) ∷ []) ∷ [] }))
+    (placed_mesh (plain Simplex (2 ∷ 2 ∷ []) (spot 3) (pos 5)) (record { kind = Simplex; dimension = 2; entries = [] ∷ ((0 ∷ 1 ∷ []) ∷ []) ∷ [] }))
     ≡ codes "nOFF\n2\n3 2 0\n0.500000 0.000000\n0.000000 0.500000\n0.500000 0.500000\n2 0 2\n2 2 1\n"
 unfolding digits placed_mesh bipolar_edges cells label_of value_at crossing mesh_text
 triangles_spot = refl
@@ -130,7 +130,7 @@ closed_walk = refl
 -- one at the boundary begins at the triangle before which there is none
 open_walk :
     walk ((0 ∷ 3 ∷ 1 ∷ []) ∷ (0 ∷ 2 ∷ 4 ∷ []) ∷ (0 ∷ 4 ∷ 3 ∷ []) ∷ (1 ∷ 5 ∷ 2 ∷ []) ∷ (1 ∷ 3 ∷ 5 ∷ []) ∷ (2 ∷ 5 ∷ 4 ∷ []) ∷ []) 0
-        ≡ record { order = 1 ∷ 2 ∷ 0 ∷ []; closed = false; whole = true }
+    ≡ record { order = 1 ∷ 2 ∷ 0 ∷ []; closed = false; whole = true }
 unfolding walk
 open_walk = refl
 
@@ -159,9 +159,9 @@ pyramid_high = refl
 -- a cube with a blank sample is left out
 square_blank :
     mesh_text 2
-        (placed_mesh
-             (volume Cube (record { sizes = 3 ∷ 2 ∷ []; samples = pos 10 ∷ pos 0 ∷ pos 255 ∷ pos 0 ∷ pos 0 ∷ pos 0 ∷ [] }) (pos 5) (Some (pos 255)))
-             square_part)
+    (placed_mesh
+    (volume Cube (record { sizes = 3 ∷ 2 ∷ []; samples = pos 10 ∷ pos 0 ∷ pos 255 ∷ pos 0 ∷ pos 0 ∷ pos 0 ∷ [] }) (pos 5) (Some (pos 255)))
+    square_part)
     ≡ codes "nOFF\n2\n2 1 0\n0.500000 0.000000\n0.000000 0.500000\n2 0 1\n"
 unfolding digits placed_mesh bipolar_edges cells label_of value_at crossing mesh_text
 square_blank = refl
@@ -202,13 +202,13 @@ abbrev pub is_sided : Volume → List (List ℕ) → Bool
 is_sided v simplices =
     let edges = bipolar_edges v in
     list_all
-        (λ w.
-             list_all
-                 (λ k.
-                      int_lt (pos 0)
-                          (turn (side_rows (map (midpoint_at edges) w) (towards_positive v (slice_index_or edges k (record { low = []; high = [] }))))))
-                 w)
-        simplices
+    (λ w.
+    list_all
+    (λ k.
+    int_lt (pos 0)
+    (turn (side_rows (map (midpoint_at edges) w) (towards_positive v (slice_index_or edges k (record { low = []; high = [] }))))))
+    w)
+    simplices
 
 simplices_sided : IsTrue (is_sided simplex_volume six_triangles)
 unfolding turn bipolar_edges cells value_at
@@ -221,7 +221,7 @@ exchanged_unsided = refl
 
 pyramids_sided :
     IsTrue
-        (is_sided (plain Pyramid (2 ∷ 2 ∷ 2 ∷ []) (pos 8 ∷ replicate 7 (pos 0)) (pos 5)) ((1 ∷ 2 ∷ 3 ∷ []) ∷ (0 ∷ 3 ∷ 2 ∷ []) ∷ (0 ∷ 2 ∷ 1 ∷ []) ∷ []))
+    (is_sided (plain Pyramid (2 ∷ 2 ∷ 2 ∷ []) (pos 8 ∷ replicate 7 (pos 0)) (pos 5)) ((1 ∷ 2 ∷ 3 ∷ []) ∷ (0 ∷ 3 ∷ 2 ∷ []) ∷ (0 ∷ 2 ∷ 1 ∷ []) ∷ []))
 unfolding turn bipolar_edges cells value_at
 pyramids_sided = refl
 
@@ -244,7 +244,7 @@ two_ends = record {
   dimension = 3;
   entries =
       replicate 129 []
-          ++ ((0 ∷ 7 ∷ 1 ∷ []) ∷ (0 ∷ 4 ∷ 10 ∷ []) ∷ (0 ∷ 10 ∷ 7 ∷ []) ∷ (1 ∷ 11 ∷ 4 ∷ []) ∷ (1 ∷ 7 ∷ 11 ∷ []) ∷ (4 ∷ 11 ∷ 10 ∷ []) ∷ []) ∷ [];
+      ++ ((0 ∷ 7 ∷ 1 ∷ []) ∷ (0 ∷ 4 ∷ 10 ∷ []) ∷ (0 ∷ 10 ∷ 7 ∷ []) ∷ (1 ∷ 11 ∷ 4 ∷ []) ∷ (1 ∷ 7 ∷ 11 ∷ []) ∷ (4 ∷ 11 ∷ 10 ∷ []) ∷ []) ∷ [];
 }
 
 cube_two_ends : mesh_text 3 (placed_mesh (plain Cube (2 ∷ 2 ∷ 2 ∷ []) (pos 10 ∷ replicate 6 (pos 0) ++ pos 10 ∷ []) (pos 5)) two_ends)

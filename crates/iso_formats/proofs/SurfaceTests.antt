@@ -93,7 +93,7 @@ abbrev is_linked : Volume → List (List (List ℕ)) → List (List ℕ) → Boo
 is_linked v free s =
     list_all (λ k. nat_le 1 (length (triangles_at s k))
     && (if on_free v free (k ∷ []) then list_all (λ c. not (has_edge v c k) || is_path v s k c) (cells v) else is_cycle s k))
-        (numbers (length (bipolar_edges v)))
+    (numbers (length (bipolar_edges v)))
 
 abbrev is_kept_isosurface : Volume → List (List ℕ) → Bool
 is_kept_isosurface v s = let free = free_facets v in is_closed (on_free v free) v s && is_placed v s && is_sided v s && is_linked v free s
@@ -102,57 +102,53 @@ is_kept_isosurface v s = let free = free_facets v in is_closed (on_free v free) 
 
 abbrev pub square_table : Table
 square_table =
-    record
-        {
-          kind = Cube;
-          dimension = 2;
-          entries = [] ∷ ((0 ∷ 1 ∷ []) ∷ []) ∷ ((2 ∷ 0 ∷ []) ∷ []) ∷ ((2 ∷ 1 ∷ []) ∷ []) ∷ ((1 ∷ 3 ∷ []) ∷ []) ∷ ((0 ∷ 3 ∷ []) ∷ [])
-              ∷ ((1 ∷ 0 ∷ []) ∷ (2 ∷ 3 ∷ []) ∷ []) ∷ ((2 ∷ 3 ∷ []) ∷ []) ∷ ((3 ∷ 2 ∷ []) ∷ []) ∷ ((0 ∷ 2 ∷ []) ∷ (3 ∷ 1 ∷ []) ∷ [])
-              ∷ ((3 ∷ 0 ∷ []) ∷ []) ∷ ((3 ∷ 1 ∷ []) ∷ []) ∷ ((1 ∷ 2 ∷ []) ∷ []) ∷ ((0 ∷ 2 ∷ []) ∷ []) ∷ ((1 ∷ 0 ∷ []) ∷ []) ∷ [] ∷ []
-        }
+    record {
+      kind = Cube;
+      dimension = 2;
+      entries = [] ∷ ((0 ∷ 1 ∷ []) ∷ []) ∷ ((2 ∷ 0 ∷ []) ∷ []) ∷ ((2 ∷ 1 ∷ []) ∷ []) ∷ ((1 ∷ 3 ∷ []) ∷ []) ∷ ((0 ∷ 3 ∷ []) ∷ [])
+          ∷ ((1 ∷ 0 ∷ []) ∷ (2 ∷ 3 ∷ []) ∷ []) ∷ ((2 ∷ 3 ∷ []) ∷ []) ∷ ((3 ∷ 2 ∷ []) ∷ []) ∷ ((0 ∷ 2 ∷ []) ∷ (3 ∷ 1 ∷ []) ∷ [])
+          ∷ ((3 ∷ 0 ∷ []) ∷ []) ∷ ((3 ∷ 1 ∷ []) ∷ []) ∷ ((1 ∷ 2 ∷ []) ∷ []) ∷ ((0 ∷ 2 ∷ []) ∷ []) ∷ ((1 ∷ 0 ∷ []) ∷ []) ∷ [] ∷ [];
+    }
 
 abbrev pub triangle_table : Table
 triangle_table =
-    record
-        {
-          kind = Simplex;
-          dimension = 2;
-          entries = [] ∷ ((0 ∷ 1 ∷ []) ∷ []) ∷ ((2 ∷ 0 ∷ []) ∷ []) ∷ ((2 ∷ 1 ∷ []) ∷ []) ∷ ((1 ∷ 2 ∷ []) ∷ []) ∷ ((0 ∷ 2 ∷ []) ∷ [])
-              ∷ ((1 ∷ 0 ∷ []) ∷ []) ∷ [] ∷ []
-        }
+    record {
+      kind = Simplex;
+      dimension = 2;
+      entries = [] ∷ ((0 ∷ 1 ∷ []) ∷ []) ∷ ((2 ∷ 0 ∷ []) ∷ []) ∷ ((2 ∷ 1 ∷ []) ∷ []) ∷ ((1 ∷ 2 ∷ []) ∷ []) ∷ ((0 ∷ 2 ∷ []) ∷ [])
+          ∷ ((1 ∷ 0 ∷ []) ∷ []) ∷ [] ∷ [];
+    }
 
 abbrev pub tetrahedron_table : Table
 tetrahedron_table =
-    record
-        {
-          kind = Simplex;
-          dimension = 3;
-          entries = [] ∷ ((0 ∷ 2 ∷ 1 ∷ []) ∷ []) ∷ ((0 ∷ 3 ∷ 4 ∷ []) ∷ []) ∷ ((1 ∷ 4 ∷ 2 ∷ []) ∷ (1 ∷ 3 ∷ 4 ∷ []) ∷ []) ∷ ((1 ∷ 5 ∷ 3 ∷ []) ∷ [])
-              ∷ ((0 ∷ 2 ∷ 5 ∷ []) ∷ (0 ∷ 5 ∷ 3 ∷ []) ∷ []) ∷ ((0 ∷ 1 ∷ 5 ∷ []) ∷ (0 ∷ 5 ∷ 4 ∷ []) ∷ []) ∷ ((2 ∷ 5 ∷ 4 ∷ []) ∷ [])
-              ∷ ((2 ∷ 4 ∷ 5 ∷ []) ∷ []) ∷ ((0 ∷ 5 ∷ 1 ∷ []) ∷ (0 ∷ 4 ∷ 5 ∷ []) ∷ []) ∷ ((0 ∷ 5 ∷ 2 ∷ []) ∷ (0 ∷ 3 ∷ 5 ∷ []) ∷ [])
-              ∷ ((1 ∷ 3 ∷ 5 ∷ []) ∷ []) ∷ ((1 ∷ 2 ∷ 4 ∷ []) ∷ (1 ∷ 4 ∷ 3 ∷ []) ∷ []) ∷ ((0 ∷ 4 ∷ 3 ∷ []) ∷ []) ∷ ((0 ∷ 1 ∷ 2 ∷ []) ∷ []) ∷ [] ∷ []
-        }
+    record {
+      kind = Simplex;
+      dimension = 3;
+      entries = [] ∷ ((0 ∷ 2 ∷ 1 ∷ []) ∷ []) ∷ ((0 ∷ 3 ∷ 4 ∷ []) ∷ []) ∷ ((1 ∷ 4 ∷ 2 ∷ []) ∷ (1 ∷ 3 ∷ 4 ∷ []) ∷ []) ∷ ((1 ∷ 5 ∷ 3 ∷ []) ∷ [])
+          ∷ ((0 ∷ 2 ∷ 5 ∷ []) ∷ (0 ∷ 5 ∷ 3 ∷ []) ∷ []) ∷ ((0 ∷ 1 ∷ 5 ∷ []) ∷ (0 ∷ 5 ∷ 4 ∷ []) ∷ []) ∷ ((2 ∷ 5 ∷ 4 ∷ []) ∷ [])
+          ∷ ((2 ∷ 4 ∷ 5 ∷ []) ∷ []) ∷ ((0 ∷ 5 ∷ 1 ∷ []) ∷ (0 ∷ 4 ∷ 5 ∷ []) ∷ []) ∷ ((0 ∷ 5 ∷ 2 ∷ []) ∷ (0 ∷ 3 ∷ 5 ∷ []) ∷ [])
+          ∷ ((1 ∷ 3 ∷ 5 ∷ []) ∷ []) ∷ ((1 ∷ 2 ∷ 4 ∷ []) ∷ (1 ∷ 4 ∷ 3 ∷ []) ∷ []) ∷ ((0 ∷ 4 ∷ 3 ∷ []) ∷ []) ∷ ((0 ∷ 1 ∷ 2 ∷ []) ∷ []) ∷ [] ∷ [];
+    }
 
 abbrev pub pyramid_table : Table
 pyramid_table =
-    record
-        {
-          kind = Pyramid;
-          dimension = 3;
-          entries = [] ∷ ((0 ∷ 4 ∷ 1 ∷ []) ∷ []) ∷ ((0 ∷ 2 ∷ 5 ∷ []) ∷ []) ∷ ((1 ∷ 2 ∷ 5 ∷ []) ∷ (1 ∷ 5 ∷ 4 ∷ []) ∷ []) ∷ ((1 ∷ 6 ∷ 3 ∷ []) ∷ [])
-              ∷ ((0 ∷ 6 ∷ 3 ∷ []) ∷ (0 ∷ 4 ∷ 6 ∷ []) ∷ []) ∷ ((0 ∷ 1 ∷ 6 ∷ []) ∷ (0 ∷ 6 ∷ 5 ∷ []) ∷ (2 ∷ 6 ∷ 3 ∷ []) ∷ (2 ∷ 5 ∷ 6 ∷ []) ∷ [])
-              ∷ ((2 ∷ 6 ∷ 3 ∷ []) ∷ (2 ∷ 5 ∷ 6 ∷ []) ∷ (4 ∷ 6 ∷ 5 ∷ []) ∷ []) ∷ ((2 ∷ 3 ∷ 7 ∷ []) ∷ [])
-              ∷ ((0 ∷ 7 ∷ 2 ∷ []) ∷ (0 ∷ 4 ∷ 7 ∷ []) ∷ (1 ∷ 3 ∷ 7 ∷ []) ∷ (1 ∷ 7 ∷ 4 ∷ []) ∷ []) ∷ ((0 ∷ 3 ∷ 7 ∷ []) ∷ (0 ∷ 7 ∷ 5 ∷ []) ∷ [])
-              ∷ ((1 ∷ 3 ∷ 7 ∷ []) ∷ (1 ∷ 7 ∷ 4 ∷ []) ∷ (4 ∷ 7 ∷ 5 ∷ []) ∷ []) ∷ ((1 ∷ 7 ∷ 2 ∷ []) ∷ (1 ∷ 6 ∷ 7 ∷ []) ∷ [])
-              ∷ ((0 ∷ 7 ∷ 2 ∷ []) ∷ (0 ∷ 4 ∷ 7 ∷ []) ∷ (4 ∷ 6 ∷ 7 ∷ []) ∷ []) ∷ ((0 ∷ 1 ∷ 6 ∷ []) ∷ (0 ∷ 6 ∷ 5 ∷ []) ∷ (5 ∷ 6 ∷ 7 ∷ []) ∷ [])
-              ∷ ((4 ∷ 7 ∷ 5 ∷ []) ∷ (4 ∷ 6 ∷ 7 ∷ []) ∷ []) ∷ ((4 ∷ 5 ∷ 7 ∷ []) ∷ (4 ∷ 7 ∷ 6 ∷ []) ∷ [])
-              ∷ ((0 ∷ 7 ∷ 1 ∷ []) ∷ (0 ∷ 5 ∷ 7 ∷ []) ∷ (1 ∷ 7 ∷ 6 ∷ []) ∷ []) ∷ ((0 ∷ 2 ∷ 6 ∷ []) ∷ (0 ∷ 6 ∷ 4 ∷ []) ∷ (2 ∷ 7 ∷ 6 ∷ []) ∷ [])
-              ∷ ((1 ∷ 2 ∷ 7 ∷ []) ∷ (1 ∷ 7 ∷ 6 ∷ []) ∷ []) ∷ ((1 ∷ 5 ∷ 3 ∷ []) ∷ (1 ∷ 4 ∷ 5 ∷ []) ∷ (3 ∷ 5 ∷ 7 ∷ []) ∷ [])
-              ∷ ((0 ∷ 7 ∷ 3 ∷ []) ∷ (0 ∷ 5 ∷ 7 ∷ []) ∷ []) ∷ ((0 ∷ 1 ∷ 4 ∷ []) ∷ (2 ∷ 7 ∷ 3 ∷ []) ∷ []) ∷ ((2 ∷ 7 ∷ 3 ∷ []) ∷ [])
-              ∷ ((2 ∷ 3 ∷ 4 ∷ []) ∷ (2 ∷ 4 ∷ 5 ∷ []) ∷ (3 ∷ 6 ∷ 4 ∷ []) ∷ []) ∷ ((0 ∷ 5 ∷ 2 ∷ []) ∷ (1 ∷ 3 ∷ 6 ∷ []) ∷ [])
-              ∷ ((0 ∷ 3 ∷ 6 ∷ []) ∷ (0 ∷ 6 ∷ 4 ∷ []) ∷ []) ∷ ((1 ∷ 3 ∷ 6 ∷ []) ∷ []) ∷ ((1 ∷ 5 ∷ 2 ∷ []) ∷ (1 ∷ 4 ∷ 5 ∷ []) ∷ [])
-              ∷ ((0 ∷ 5 ∷ 2 ∷ []) ∷ []) ∷ ((0 ∷ 1 ∷ 4 ∷ []) ∷ []) ∷ [] ∷ []
-        }
+    record {
+      kind = Pyramid;
+      dimension = 3;
+      entries = [] ∷ ((0 ∷ 4 ∷ 1 ∷ []) ∷ []) ∷ ((0 ∷ 2 ∷ 5 ∷ []) ∷ []) ∷ ((1 ∷ 2 ∷ 5 ∷ []) ∷ (1 ∷ 5 ∷ 4 ∷ []) ∷ []) ∷ ((1 ∷ 6 ∷ 3 ∷ []) ∷ [])
+          ∷ ((0 ∷ 6 ∷ 3 ∷ []) ∷ (0 ∷ 4 ∷ 6 ∷ []) ∷ []) ∷ ((0 ∷ 1 ∷ 6 ∷ []) ∷ (0 ∷ 6 ∷ 5 ∷ []) ∷ (2 ∷ 6 ∷ 3 ∷ []) ∷ (2 ∷ 5 ∷ 6 ∷ []) ∷ [])
+          ∷ ((2 ∷ 6 ∷ 3 ∷ []) ∷ (2 ∷ 5 ∷ 6 ∷ []) ∷ (4 ∷ 6 ∷ 5 ∷ []) ∷ []) ∷ ((2 ∷ 3 ∷ 7 ∷ []) ∷ [])
+          ∷ ((0 ∷ 7 ∷ 2 ∷ []) ∷ (0 ∷ 4 ∷ 7 ∷ []) ∷ (1 ∷ 3 ∷ 7 ∷ []) ∷ (1 ∷ 7 ∷ 4 ∷ []) ∷ []) ∷ ((0 ∷ 3 ∷ 7 ∷ []) ∷ (0 ∷ 7 ∷ 5 ∷ []) ∷ [])
+          ∷ ((1 ∷ 3 ∷ 7 ∷ []) ∷ (1 ∷ 7 ∷ 4 ∷ []) ∷ (4 ∷ 7 ∷ 5 ∷ []) ∷ []) ∷ ((1 ∷ 7 ∷ 2 ∷ []) ∷ (1 ∷ 6 ∷ 7 ∷ []) ∷ [])
+          ∷ ((0 ∷ 7 ∷ 2 ∷ []) ∷ (0 ∷ 4 ∷ 7 ∷ []) ∷ (4 ∷ 6 ∷ 7 ∷ []) ∷ []) ∷ ((0 ∷ 1 ∷ 6 ∷ []) ∷ (0 ∷ 6 ∷ 5 ∷ []) ∷ (5 ∷ 6 ∷ 7 ∷ []) ∷ [])
+          ∷ ((4 ∷ 7 ∷ 5 ∷ []) ∷ (4 ∷ 6 ∷ 7 ∷ []) ∷ []) ∷ ((4 ∷ 5 ∷ 7 ∷ []) ∷ (4 ∷ 7 ∷ 6 ∷ []) ∷ [])
+          ∷ ((0 ∷ 7 ∷ 1 ∷ []) ∷ (0 ∷ 5 ∷ 7 ∷ []) ∷ (1 ∷ 7 ∷ 6 ∷ []) ∷ []) ∷ ((0 ∷ 2 ∷ 6 ∷ []) ∷ (0 ∷ 6 ∷ 4 ∷ []) ∷ (2 ∷ 7 ∷ 6 ∷ []) ∷ [])
+          ∷ ((1 ∷ 2 ∷ 7 ∷ []) ∷ (1 ∷ 7 ∷ 6 ∷ []) ∷ []) ∷ ((1 ∷ 5 ∷ 3 ∷ []) ∷ (1 ∷ 4 ∷ 5 ∷ []) ∷ (3 ∷ 5 ∷ 7 ∷ []) ∷ [])
+          ∷ ((0 ∷ 7 ∷ 3 ∷ []) ∷ (0 ∷ 5 ∷ 7 ∷ []) ∷ []) ∷ ((0 ∷ 1 ∷ 4 ∷ []) ∷ (2 ∷ 7 ∷ 3 ∷ []) ∷ []) ∷ ((2 ∷ 7 ∷ 3 ∷ []) ∷ [])
+          ∷ ((2 ∷ 3 ∷ 4 ∷ []) ∷ (2 ∷ 4 ∷ 5 ∷ []) ∷ (3 ∷ 6 ∷ 4 ∷ []) ∷ []) ∷ ((0 ∷ 5 ∷ 2 ∷ []) ∷ (1 ∷ 3 ∷ 6 ∷ []) ∷ [])
+          ∷ ((0 ∷ 3 ∷ 6 ∷ []) ∷ (0 ∷ 6 ∷ 4 ∷ []) ∷ []) ∷ ((1 ∷ 3 ∷ 6 ∷ []) ∷ []) ∷ ((1 ∷ 5 ∷ 2 ∷ []) ∷ (1 ∷ 4 ∷ 5 ∷ []) ∷ [])
+          ∷ ((0 ∷ 5 ∷ 2 ∷ []) ∷ []) ∷ ((0 ∷ 1 ∷ 4 ∷ []) ∷ []) ∷ [] ∷ [];
+    }
 
 -- this is the table that the plain hull gives
 plain_pyramids : map (entry Pyramid 3) (numbers 32) ≡ pyramid_table.entries
@@ -179,8 +175,8 @@ triangles = refl
 abbrev tetrahedra_volume : Volume
 tetrahedra_volume =
     volume Simplex
-        (record { sizes = (2 ∷ 2 ∷ 2 ∷ []); samples = (pos 5 ∷ negsuc 3 ∷ negsuc 4 ∷ pos 7 ∷ negsuc 3 ∷ negsuc 2 ∷ pos 2 ∷ negsuc 8 ∷ []) })
-        (negsuc 3) None
+    (record { sizes = (2 ∷ 2 ∷ 2 ∷ []); samples = (pos 5 ∷ negsuc 3 ∷ negsuc 4 ∷ pos 7 ∷ negsuc 3 ∷ negsuc 2 ∷ pos 2 ∷ negsuc 8 ∷ []) })
+    (negsuc 3) None
 
 tetrahedra : IsTrue (is_isosurface tetrahedra_volume (placed_mesh tetrahedra_volume tetrahedron_table).simplices)
 unfolding placed_mesh bipolar_edges cells label_of value_at crossing walk turn
@@ -189,12 +185,11 @@ tetrahedra = refl
 abbrev pyramids_volume : Volume
 pyramids_volume =
     volume Pyramid
-        (record
-             {
-               sizes = (3 ∷ 2 ∷ 2 ∷ []);
-               samples = (pos 1 ∷ negsuc 1 ∷ pos 3 ∷ negsuc 3 ∷ pos 5 ∷ negsuc 5 ∷ pos 7 ∷ negsuc 7 ∷ pos 9 ∷ negsuc 9 ∷ pos 11 ∷ negsuc 12 ∷ [])
-             })
-        (negsuc 0) None
+    (record {
+      sizes = (3 ∷ 2 ∷ 2 ∷ []);
+      samples = (pos 1 ∷ negsuc 1 ∷ pos 3 ∷ negsuc 3 ∷ pos 5 ∷ negsuc 5 ∷ pos 7 ∷ negsuc 7 ∷ pos 9 ∷ negsuc 9 ∷ pos 11 ∷ negsuc 12 ∷ []);
+    })
+    (negsuc 0) None
 
 pyramids : IsTrue (is_isosurface pyramids_volume (placed_mesh pyramids_volume pyramid_table).simplices)
 unfolding placed_mesh bipolar_edges cells label_of value_at crossing walk turn
@@ -213,12 +208,11 @@ all_but_one = refl
 abbrev blank_tetrahedra_volume : Volume
 blank_tetrahedra_volume =
     volume Simplex
-        (record
-             {
-               sizes = (3 ∷ 2 ∷ 2 ∷ []);
-               samples = (pos 1 ∷ negsuc 1 ∷ pos 3 ∷ negsuc 3 ∷ pos 5 ∷ negsuc 5 ∷ pos 7 ∷ negsuc 7 ∷ pos 9 ∷ negsuc 9 ∷ pos 11 ∷ negsuc 12 ∷ [])
-             })
-        (negsuc 0) (Some (negsuc 12))
+    (record {
+      sizes = (3 ∷ 2 ∷ 2 ∷ []);
+      samples = (pos 1 ∷ negsuc 1 ∷ pos 3 ∷ negsuc 3 ∷ pos 5 ∷ negsuc 5 ∷ pos 7 ∷ negsuc 7 ∷ pos 9 ∷ negsuc 9 ∷ pos 11 ∷ negsuc 12 ∷ []);
+    })
+    (negsuc 0) (Some (negsuc 12))
 
 blank_tetrahedra : IsTrue (is_kept_isosurface blank_tetrahedra_volume (placed_mesh blank_tetrahedra_volume tetrahedron_table).simplices)
 unfolding placed_mesh bipolar_edges cells label_of value_at crossing walk turn
@@ -228,14 +222,13 @@ blank_tetrahedra = refl
 abbrev blank_cubes_volume : Volume
 blank_cubes_volume =
     volume Cube
-        (record
-             {
-               sizes = (3 ∷ 3 ∷ 2 ∷ []);
-               samples =
-                   (pos 0 ∷ pos 0 ∷ pos 255 ∷ pos 0 ∷ pos 10 ∷ pos 0 ∷ pos 255 ∷ pos 0 ∷ pos 0 ∷ pos 0 ∷ pos 0 ∷ pos 0 ∷ pos 0 ∷ pos 0 ∷ pos 0 ∷ pos 0
-                        ∷ pos 0 ∷ pos 0 ∷ [])
-             })
-        (pos 5) (Some (pos 255))
+    (record {
+      sizes = (3 ∷ 3 ∷ 2 ∷ []);
+      samples =
+          (pos 0 ∷ pos 0 ∷ pos 255 ∷ pos 0 ∷ pos 10 ∷ pos 0 ∷ pos 255 ∷ pos 0 ∷ pos 0 ∷ pos 0 ∷ pos 0 ∷ pos 0 ∷ pos 0 ∷ pos 0 ∷ pos 0 ∷ pos 0
+          ∷ pos 0 ∷ pos 0 ∷ []);
+    })
+    (pos 5) (Some (pos 255))
 
 blank_cubes : IsTrue (is_kept_isosurface blank_cubes_volume ((0 ∷ 1 ∷ 4 ∷ []) ∷ (2 ∷ 4 ∷ 3 ∷ []) ∷ []))
 unfolding placed_mesh bipolar_edges cells label_of value_at crossing walk turn
@@ -272,9 +265,9 @@ slices = refl
 -- the edge of slice 1 belongs to the kept square below it alone
 kept_below :
     mesh_text 2
-        (placed_mesh
-             (volume Cube (record { sizes = 2 ∷ 3 ∷ []; samples = pos 0 ∷ pos 0 ∷ pos 10 ∷ pos 0 ∷ pos 255 ∷ pos 0 ∷ [] }) (pos 5) (Some (pos 255)))
-             square_table)
+    (placed_mesh
+    (volume Cube (record { sizes = 2 ∷ 3 ∷ []; samples = pos 0 ∷ pos 0 ∷ pos 10 ∷ pos 0 ∷ pos 255 ∷ pos 0 ∷ [] }) (pos 5) (Some (pos 255)))
+    square_table)
     ≡ codes "nOFF\n2\n2 1 0\n0.000000 0.500000\n0.500000 1.000000\n2 0 1\n"
 unfolding digits placed_mesh bipolar_edges cells label_of value_at crossing mesh_text
 kept_below = refl

@@ -23,13 +23,12 @@ square_bytes =
     0x48 ∷ 0x55 ∷ 0x4c ∷ 0x4c ∷ 0x54 ∷ 0x41 ∷ 0x42 ∷ 0x31 ∷ 0 ∷ 2 ∷ 4 ∷ 4 ∷ 0 ∷ 0 ∷ 0 ∷ 16
     ∷ 0 ∷ 0 ∷ 0 ∷ 0 ∷ 0 ∷ 0 ∷ 0 ∷ 1 ∷ 0 ∷ 1 ∷ 0 ∷ 0 ∷ 0 ∷ 1 ∷ 2 ∷ 0 ∷ 0 ∷ 0 ∷ 0 ∷ 1 ∷ 2 ∷ 1 ∷ 0 ∷ 0 ∷ 0 ∷ 1 ∷ 1 ∷ 3 ∷ 0 ∷ 0 ∷ 0 ∷ 1 ∷ 0 ∷ 3
     ∷ 0 ∷ 0 ∷ 0 ∷ 2 ∷ 1 ∷ 0 ∷ 2 ∷ 3 ∷ 0 ∷ 0 ∷ 0 ∷ 1 ∷ 2 ∷ 3 ∷ 0 ∷ 0 ∷ 0 ∷ 1 ∷ 3 ∷ 2 ∷ 0 ∷ 0 ∷ 0 ∷ 2 ∷ 0 ∷ 2 ∷ 3 ∷ 1 ∷ 0 ∷ 0 ∷ 0 ∷ 1 ∷ 3 ∷ 0 ∷ 0 ∷ 0
-        ∷ 0 ∷ 1 ∷ 3 ∷ 1
+    ∷ 0 ∷ 1 ∷ 3 ∷ 1
     ∷ 0 ∷ 0 ∷ 0 ∷ 1 ∷ 1 ∷ 2 ∷ 0 ∷ 0 ∷ 0 ∷ 1 ∷ 0 ∷ 2 ∷ 0 ∷ 0 ∷ 0 ∷ 1 ∷ 1 ∷ 0 ∷ 0 ∷ 0 ∷ 0 ∷ 0 ∷ []
 
 square_spelled : table_bytes square ≡ square_bytes
 unfolding table_bytes
 square_spelled = refl
-
 
 -- ---- the square's table is one
 
@@ -58,8 +57,8 @@ entries_from : (kind : Kind) (d : ℕ) (es : List (List (List ℕ))) → list_al
 unfolding is_small_entry
 entries_from kind d es e = λ k n h.
     let b =
-        and_parts (nat_lt (length (slice_index_or es k n)) 1000) (list_all (is_tuple kind d) (slice_index_or es k n))
-            (AllPass-from_list_all (is_small_entry kind d) es e k n h) in
+    and_parts (nat_lt (length (slice_index_or es k n)) 1000) (list_all (is_tuple kind d) (slice_index_or es k n))
+    (AllPass-from_list_all (is_small_entry kind d) es e k n h) in
     let l = below_from _ _ b.0 in
     entry_from kind d (slice_index_or es k n) (omega arith) b.1
 
@@ -204,8 +203,8 @@ many_never c h many =
     let sound = subst (λ (k : Kind). All (IsEntry k 2) c.entries) h.kinds (subst (λ (d : ℕ). All (IsEntry c.kind d) c.entries) h.dimensions c.sound) in
     let g = entries_go_on Cube 2 front c.entries behind c.rest (omega arith) front_sound sound (sym h.rests) in
     no_entries g.further (drop 108 square_bytes) c.rest
-        (omega (arith, ap (λ (l : List (List (List ℕ))). length l) g.is, length-append front g.further))
-        (All-further front g.further c.entries g.is sound) g.rest
+    (omega (arith, ap (λ (l : List (List (List ℕ))). length l) g.is, length-append front g.further))
+    (All-further front g.further c.entries g.is sound) g.rest
 
 -- no count passes
 never_passes : CountPasses wrong_edge → ⊥
@@ -243,12 +242,11 @@ edge_200 = record {
 -- at this byte no table goes on
 edge_200_stops : WrongEdgeStops wrong_edge 107
 unfolding table_bytes
-edge_200_stops w =
-    (
-      record { inside = omega arith; begun = (square, drop 107 square_bytes, (square_is_table, refl)); stopped = never_begins },
-      never_whole,
-      never_passes
-    )
+edge_200_stops w = (
+  record { inside = omega arith; begun = (square, drop 107 square_bytes, (square_is_table, refl)); stopped = never_begins },
+  never_whole,
+  never_passes,
+)
 
 -- ---- a last count of 200, and the bytes end: they begin a table, and are none
 
@@ -276,8 +274,8 @@ last_never : IsWholeTable last_count → ⊥
 unfolding table_bytes
 last_never w =
     let r =
-        table_reads_on Cube 2 (take 15 square.entries) w.0 (0 ∷ 0 ∷ 0 ∷ 200 ∷ []) [] w.1.0 fifteen_sound (omega arith)
-            (w.1.1 ∙ sym (append-nil (table_bytes w.0))) in
+    table_reads_on Cube 2 (take 15 square.entries) w.0 (0 ∷ 0 ∷ 0 ∷ 200 ∷ []) [] w.1.0 fifteen_sound (omega arith)
+    (w.1.1 ∙ sym (append-nil (table_bytes w.0))) in
     let labels : length w.0.entries ≡ 16 =
     w.1.0.whole ∙ subst (λ (k : Kind). label_count k w.0.dimension ≡ 16) r.same_kind_of (subst (λ (d : ℕ). label_count Cube d ≡ 16) r.same_dimension refl) in
     no_last r.on.further (omega (arith, labels, ap (λ (l : List (List (List ℕ))). length l) r.on.is, length-append (take 15 square.entries) r.on.further))

@@ -28,8 +28,8 @@ tuples_again kind d [] (v ∷ vs) x y l a b e = absurd (omega arith)
 tuples_again kind d (w ∷ ws) [] x y l a b e = absurd (omega arith)
 tuples_again kind d (w ∷ ws) (v ∷ vs) x y l a b e =
     let f =
-        same_front w v _ _ ((All-head (IsTuple kind d) w ws a).0 ∙ sym (All-head (IsTuple kind d) v vs b).0)
-            (sym (append_assoc w _ x) ∙ e ∙ append_assoc v _ y) in
+    same_front w v _ _ ((All-head (IsTuple kind d) w ws a).0 ∙ sym (All-head (IsTuple kind d) v vs b).0)
+    (sym (append_assoc w _ x) ∙ e ∙ append_assoc v _ y) in
     let r = tuples_again kind d ws vs x y (omega arith) (All-tail (IsTuple kind d) w ws a) (All-tail (IsTuple kind d) v vs b) f.1 in
     let h = f.0 in let t = r.0 in
     (cc, r.1)
@@ -44,7 +44,7 @@ pub entry_again : (kind : Kind) (d : ℕ) (ws vs : List (List ℕ)) (x y : List 
 entry_again kind d ws vs x y a b e =
     tuples_again kind d ws vs x y
     (same_count (length ws) (length vs) a.0 b.0 (ap (λ (l : List ℕ). slice_index l 0) e) (ap (λ (l : List ℕ). slice_index l 1) e)
-         (ap (λ (l : List ℕ). slice_index l 2) e) (ap (λ (l : List ℕ). slice_index l 3) e))
+    (ap (λ (l : List ℕ). slice_index l 2) e) (ap (λ (l : List ℕ). slice_index l 3) e))
     a.1 b.1 (ap (drop 4) e)
 
 -- entries before others: the longer list goes on from the shorter one
@@ -60,8 +60,8 @@ entries_go_on kind d [] fs x y l a b e = record { further = fs; is = refl; rest 
 entries_go_on kind d (ws ∷ es) [] x y l a b e = absurd (omega arith)
 entries_go_on kind d (ws ∷ es) (vs ∷ fs) x y l a b e =
     let f =
-        entry_again kind d ws vs _ _ (All-head (IsEntry kind d) ws es a) (All-head (IsEntry kind d) vs fs b)
-            (sym (append_assoc (entry_bytes ws) _ x) ∙ e ∙ append_assoc (entry_bytes vs) _ y) in
+    entry_again kind d ws vs _ _ (All-head (IsEntry kind d) ws es a) (All-head (IsEntry kind d) vs fs b)
+    (sym (append_assoc (entry_bytes ws) _ x) ∙ e ∙ append_assoc (entry_bytes vs) _ y) in
     let r = entries_go_on kind d es fs x y (omega arith) (All-tail (IsEntry kind d) ws es a) (All-tail (IsEntry kind d) vs fs b) f.1 in
     let h = f.0 in let t = r.is in
     record { further = r.further; is = cc; rest = r.rest }
@@ -117,7 +117,7 @@ heads_same k d k' d' es fs x y e =
 pub not_whole-cut : (t : Table) (n : ℕ) → IsTable t → n < length (table_bytes t) → ¬ IsWholeTable (take n (table_bytes t))
 not_whole-cut t n is h w =
     let r = table_reads_on t.kind t.dimension t.entries w.0 [] (drop n (table_bytes t)) w.1.0 is.sound
-        (subst (λ (m : ℕ). length t.entries ≤ m) is.whole (omega arith))
+    (subst (λ (m : ℕ). length t.entries ≤ m) is.whole (omega arith))
     (append-nil (table_bytes t) ∙ sym (take-append-drop n (table_bytes t)) ∙ ap (λ (b : List ℕ). b ++ drop n (table_bytes t)) w.1.1) in
     absurd (omega (arith, ap length r.on.rest, length-append (flat_map entry_bytes r.on.further) (drop n (table_bytes t)), length-drop n (table_bytes t)))
 

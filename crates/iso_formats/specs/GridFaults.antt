@@ -96,7 +96,7 @@ first_value f texts = slice_index_or (values (field_name f) texts) 0 []
 abbrev pub count_fault : List (List ℕ) → Option GridFault
 count_fault texts =
     if option_map_or (λ d. option_map_or (λ (ns : List ℕ). length ns == d) (sizes_of (first_value Sizes texts)) true)
-        (dimension_of (first_value Dimension texts)) true
+    (dimension_of (first_value Dimension texts)) true
     then None else Some (wrong_sizes (line_of (field_name Sizes) texts))
 
 -- the first cause of a header's lines: for each line from 2 on, in order, its own; then the first field that is missing; then the number of sizes

@@ -34,14 +34,14 @@ pub record SpellHeader (texts : List (List ℕ)) (h : Header) : Type 0 where
   pub between : AllPass is_sound_line (drop 1 texts)
   pub sample_type :
       (value : List ℕ) × (values (field_name SampleType) texts ≡ value ∷ [])
-          × (sample_of value ≡ Some (record { width = h.width; signed = h.signed }))
+      × (sample_of value ≡ Some (record { width = h.width; signed = h.signed }))
   pub dimension : (value : List ℕ) × (values (field_name Dimension) texts ≡ value ∷ []) × (dimension_of value ≡ Some (length h.sizes))
   pub sizes : (value : List ℕ) × (values (field_name Sizes) texts ≡ value ∷ []) × (sizes_of value ≡ Some h.sizes)
   pub encoding : (value : List ℕ) × (values (field_name Encoding) texts ≡ value ∷ []) × IsTrue (is_raw value)
   pub endian : ((values (field_name Endian) texts ≡ []) × (h.width ≡ 1) × (h.big ≡ false))
       ⊎
-          ((value : List ℕ) × (big : Bool) × (values (field_name Endian) texts ≡ value ∷ []) × (big_endian_of value ≡ Some big)
-               × (h.big ≡ (nat_lt 1 h.width && big)))
+      ((value : List ℕ) × (big : Bool) × (values (field_name Endian) texts ≡ value ∷ []) × (big_endian_of value ≡ Some big)
+      × (h.big ≡ (nat_lt 1 h.width && big)))
 
 -- the bytes begin with a well-formed header; the data bytes follow
 abbrev pub HasHeader : List ℕ → Header → List ℕ → Type 0

@@ -91,3 +91,9 @@ written_more out i v f p e h =
 pub copied_more : (out row : List ℤ) (i : ℕ) (v w : ℤ) → i < length out → v ≡ w → w ≡ get_or row i (pos 0)
     → ((k : ℕ) → k < i → get_or out k (pos 0) ≡ get_or row k (pos 0)) → (k : ℕ) → k < i + 1 → get_or (set out i v) k (pos 0) ≡ get_or row k (pos 0)
 copied_more out row i v w p e f h = written_more out i v (λ k. get_or row k (pos 0)) p (e ∙ f) h
+
+pub small-neg : (m : ℕ) (x : ℤ) → IsSmall m x → IsSmall m (neg_ℤ x)
+small-neg m x p = omega (arith, ints)
+
+pub AreSmall-weaken : (m n : ℕ) (xs : List ℤ) → m ≤ n → AreSmall m xs → AreSmall n xs
+AreSmall-weaken m n xs p h k d q = let s : IsSmall m (get_or xs k d) = h k d q in omega arith

@@ -33,13 +33,12 @@ unfolding filled
 filled_is_table kind d es fits sound few = record {
   fits = fits;
   whole =
-      omega
-          (
-            arith,
-            few,
-            length-append es (replicate (label_count kind d - length es) []),
-            length-replicate (label_count kind d - length es) (let e : List (List ℕ) = [] in e)
-          );
+      omega (
+        arith,
+        few,
+        length-append es (replicate (label_count kind d - length es) []),
+        length-replicate (label_count kind d - length es) (let e : List (List ℕ) = [] in e),
+      );
   sound = All-append (IsEntry kind d) es _ sound (All-replicate (IsEntry kind d) (label_count kind d - length es) [] (empty_entry kind d));
 }
 
@@ -48,7 +47,7 @@ table_bytes-append : (kind : Kind) (d : ℕ) (es gs : List (List (List ℕ)))
 unfolding table_bytes
 table_bytes-append kind d es gs =
     ap (λ (l : List ℕ). head_bytes 1 kind d ++ l) (flat_map-append entry_bytes es gs)
-        ∙ sym (append_assoc (head_bytes 1 kind d) (flat_map entry_bytes es) (flat_map entry_bytes gs))
+    ∙ sym (append_assoc (head_bytes 1 kind d) (flat_map entry_bytes es) (flat_map entry_bytes gs))
 
 -- the head and some entries begin a table
 pub begins_entries : (kind : Kind) (d : ℕ) (es : List (List (List ℕ))) (bytes more : List ℕ) → HasDimension kind d → All (IsEntry kind d) es
@@ -70,7 +69,7 @@ pub begins_entry : (kind : Kind) (d : ℕ) (bytes : List ℕ) (es : List (List (
     → length es < label_count kind d → IsEntry kind d g → drop place bytes ++ more ≡ entry_bytes g → BeginsTable bytes
 begins_entry kind d bytes es place g more r few s e =
     begins_entries kind d (es ++ g ∷ []) bytes more r.fits
-        (All-append (IsEntry kind d) es (g ∷ []) r.sound (All-cons (IsEntry kind d) g [] s (All-nil (IsEntry kind d))))
+    (All-append (IsEntry kind d) es (g ∷ []) r.sound (All-cons (IsEntry kind d) g [] s (All-nil (IsEntry kind d))))
     (omega (arith, few, length-append es (g ∷ [])))
     (
     ap (λ (l : List ℕ). l ++ more) r.split ∙ append_assoc (table_bytes (table_of kind d es)) (drop place bytes) more
@@ -169,7 +168,7 @@ no_longer front more w b =
     let r = table_reads_on t.kind t.dimension t.entries b.0 (more ++ b.1) [] b.2.0 w.1.0.sound (omega (arith, w.1.0.whole)) whole in
     let labels = labels_same t.kind t.dimension t.entries b.0 (more ++ b.1) [] b.2.0 r in
     let long : length r.on.further ≡ 0 =
-        omega (arith, w.1.0.whole, labels, ap (λ (l : List (List (List ℕ))). length l) r.on.is, length-append t.entries r.on.further) in
+    omega (arith, w.1.0.whole, labels, ap (λ (l : List (List (List ℕ))). length l) r.on.is, length-append t.entries r.on.further) in
     let rest : more ++ b.1 ≡ flat_map entry_bytes [] ++ [] =
     r.on.rest ∙ ap (λ (l : List (List (List ℕ))). flat_map entry_bytes l ++ []) (nil_from_length r.on.further long) in
     nil_from_length more (omega (arith, length-append more b.1, ap (λ (l : List ℕ). length l) rest))

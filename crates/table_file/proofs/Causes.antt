@@ -134,17 +134,16 @@ wrong_edge_cause kind d bytes es place distance p r few w at =
           r.split ∙ ap (λ (l : List ℕ). start ++ l) w.split ∙ sym (append_assoc start (count ++ w.before) (w.byte ∷ w.rest))
           ∙ ap (λ (l : List ℕ). l ++ w.byte ∷ w.rest) (sym (append_assoc start count w.before));
       at =
-          omega
-              (
-                arith,
-                at,
-                w.at,
-                r.inside,
-                length-drop place bytes,
-                ap (λ (l : List ℕ). length l) w.split,
-                length-append (count ++ w.before) (w.byte ∷ w.rest),
-                length-append count w.before
-              );
+          omega (
+            arith,
+            at,
+            w.at,
+            r.inside,
+            length-drop place bytes,
+            ap (λ (l : List ℕ). length l) w.split,
+            length-append (count ++ w.before) (w.byte ∷ w.rest),
+            length-append count w.before,
+          );
     }
 
 pub entry_cause : (kind : Kind) (d : ℕ) (bytes : List ℕ) (es : List (List (List ℕ))) (place : ℕ) (fault : TableFault) → HasRead kind d bytes es place
@@ -168,7 +167,7 @@ read_front kind d bytes es place r =
     let start = table_bytes (table_of kind d es) in
     ap (λ (l : List ℕ). take place l) r.split
     ∙ take_at start (drop place bytes) place
-        (omega (arith, r.inside, ap (λ (l : List ℕ). length l) r.split, length-append start (drop place bytes), length-drop place bytes))
+    (omega (arith, r.inside, ap (λ (l : List ℕ). length l) r.split, length-append start (drop place bytes), length-drop place bytes))
 
 pub extra_cause : (kind : Kind) (d : ℕ) (bytes : List ℕ) (es : List (List (List ℕ))) (place : ℕ) → HasRead kind d bytes es place
     → length es ≡ label_count kind d
@@ -177,15 +176,13 @@ extra_cause kind d bytes es place r all more =
     (more, (table_of kind d es, (record { fits = r.fits; whole = all; sound = r.sound }, read_front kind d bytes es place r)))
 
 pub head_short : (bytes : List ℕ) (place : ℕ) → StopsInHead bytes place → place ≡ length bytes → HasCause bytes (Short place)
-head_short bytes place s end =
-    (
-      end,
-      inr
-          (
-            subst BeginsTable (take_all place bytes (omega arith)) (begins_head bytes place (omega (arith, s.inside_head)) s.begun),
-            not_whole-head bytes place s
-          )
-    )
+head_short bytes place s end = (
+  end,
+  inr (
+    subst BeginsTable (take_all place bytes (omega arith)) (begins_head bytes place (omega (arith, s.inside_head)) s.begun),
+    not_whole-head bytes place s,
+  ),
+)
 
 pub head_magic : (bytes : List ℕ) (place : ℕ) → StopsInHead bytes place → place < length bytes → place < 8 → HasCause bytes (Magic place)
 head_magic bytes place s inside h = (stops_in_head_at bytes place s inside, h)

@@ -95,7 +95,7 @@ entry_at kind d count front behind edges bytes place n tuples f some size room r
     let rows = rows-first_chunks (edge_count kind d) d count here (omega arith) sound in
     let end : drop n behind ≡ drop (place + 4 + length tuples * d) bytes =
     ap (λ (l : List ℕ). drop n l) f.behind_is ∙ drop-drop n (place + 4) bytes
-        ∙ ap (λ (m : ℕ). drop (place + 4 + m) bytes) (size ∙ ap (λ (m : ℕ). m * d) (sym many)) in
+    ∙ ap (λ (m : ℕ). drop (place + 4 + m) bytes) (size ∙ ap (λ (m : ℕ). m * d) (sym many)) in
     let rest : behind ≡ flat_map (λ (w : List ℕ). w) tuples ++ drop (place + 4 + length tuples * d) bytes =
     sym (take-append-drop n behind) ∙ ap (λ (l : List ℕ). l ++ drop n behind) (sym flat) ∙ ap (λ (l : List ℕ). flat_map (λ (w : List ℕ). w) tuples ++ l) end in
     let whole = count_whole (drop place bytes) count (begins_at kind d count front behind edges bytes place f) in
@@ -103,7 +103,7 @@ entry_at kind d count front behind edges bytes place n tuples f some size room r
       sound = (omega (arith, many, f.begins.0), subst (λ (l : List (List ℕ)). All (IsTuple kind d) l) (sym chunks) rows);
       inside =
           rw many
-              (omega (arith, room, ap (λ (l : List ℕ). length l) f.behind_is, length-drop (place + 4) bytes, length-drop place bytes, whole, f.inside));
+          (omega (arith, room, ap (λ (l : List ℕ). length l) f.behind_is, length-drop (place + 4) bytes, length-drop place bytes, whole, f.inside));
       split =
           front_split kind d count front behind edges bytes place f ∙ ap (λ (l : List ℕ). big_endian 4 count ++ l) rest
           ∙ ap (λ (m : ℕ). big_endian 4 m ++ (flat_map (λ (w : List ℕ). w) tuples ++ drop (place + 4 + length tuples * d) bytes)) (sym many);
@@ -120,7 +120,7 @@ sound_at xs f P i x h read s =
 pub same_counts : (m n : ℕ) (x y : List ℕ) → m ≤ 2 ^ 28 → n ≤ 2 ^ 28 → big_endian 4 m ++ x ≡ big_endian 4 n ++ y → m ≡ n
 same_counts m n x y a b e =
     same_count m n a b (ap (λ (l : List ℕ). slice_index l 0) e) (ap (λ (l : List ℕ). slice_index l 1) e) (ap (λ (l : List ℕ). slice_index l 2) e)
-        (ap (λ (l : List ℕ). slice_index l 3) e)
+    (ap (λ (l : List ℕ). slice_index l 3) e)
 
 -- an entry begins with its count
 pub entry_begins : (kind : Kind) (d : ℕ) (g : List (List ℕ)) (bytes y : List ℕ) → IsEntry kind d g → bytes ≡ entry_bytes g ++ y
@@ -144,8 +144,8 @@ no_entry_wrong kind d bytes distance w g y s e =
     let whole = sym w.split ∙ e in
     let same : w.count ≡ length g = same_counts w.count (length g) (w.before ++ w.byte ∷ w.rest) (flat_map (λ (t : List ℕ). t) g ++ y) w.few s.0 whole in
     let below =
-        edge_in_tuples (edge_count kind d) d g w.before w.rest y w.byte s.1 (subst (λ (n : ℕ). length w.before < n * d) same w.in_tuple)
-            (ap (λ (l : List ℕ). drop 4 l) whole) in
+    edge_in_tuples (edge_count kind d) d g w.before w.rest y w.byte s.1 (subst (λ (n : ℕ). length w.before < n * d) same w.in_tuple)
+    (ap (λ (l : List ℕ). drop 4 l) whole) in
     omega (arith, below, w.wrong)
 
 pub no_entry_cut : (kind : Kind) (d : ℕ) (bytes : List ℕ) → IsCutOff kind d bytes → (g : List (List ℕ)) (y : List ℕ) → IsEntry kind d g

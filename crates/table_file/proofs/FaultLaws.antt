@@ -39,7 +39,7 @@ whole_below : (bytes : List ℕ) (p q : ℕ) → p < q → q ≤ length bytes �
 whole_below bytes p q h inside w b =
     let more = drop p (take q bytes) in
     let parts : take p bytes ++ more ≡ take q bytes =
-        ap (λ (l : List ℕ). l ++ more) (sym (take-take p q bytes (omega arith))) ∙ take-append-drop p (take q bytes) in
+    ap (λ (l : List ℕ). l ++ more) (sym (take-take p q bytes (omega arith))) ∙ take-append-drop p (take q bytes) in
     let none = no_longer (take p bytes) more w (subst BeginsTable (sym parts) b) in
     omega (arith, ap (λ (l : List ℕ). length l) none, length-drop p (take q bytes), length-take-le q bytes inside)
 
@@ -196,7 +196,7 @@ reads_wrong bytes place w =
       front = ap (λ (l : List ℕ). take place l) split ∙ take_at front (w.byte ∷ w.rest) place long;
       one_more =
           ap (λ (l : List ℕ). take (place + 1) l) next ∙ take_at (front ++ w.byte ∷ []) w.rest (place + 1) longer
-              ∙ append_assoc start (count ++ w.before) (w.byte ∷ []);
+          ∙ append_assoc start (count ++ w.before) (w.byte ∷ []);
       far = omega (arith, long, table_long t, length-append start (count ++ w.before));
       inside = omega (arith, w.at);
     }
@@ -218,7 +218,7 @@ edge_not_whole bytes place w r =
     let behind = big_endian 4 w.count ++ w.before in
     let at = length (table_bytes (table_of w.kind w.dimension w.entries)) in
     not_whole-entry w.kind w.dimension (take place bytes) w.entries at
-        (read_at w.kind w.dimension (take place bytes) w.entries behind w.fits w.sound r.front) w.room
+    (read_at w.kind w.dimension (take place bytes) w.entries behind w.fits w.sound r.front) w.room
     (no_entry_cut w.kind w.dimension (drop at (take place bytes))
     (subst (λ (l : List ℕ). IsCutOff w.kind w.dimension l) (sym (behind_read w.kind w.dimension (take place bytes) w.entries behind r.front)) cut))
 
@@ -240,7 +240,7 @@ edge_stopped bytes place w r =
       at = refl;
     } in
     not_begins-wrong w.kind w.dimension front w.entries at (length w.before)
-        (read_at w.kind w.dimension front w.entries behind w.fits w.sound r.one_more) w.room
+    (read_at w.kind w.dimension front w.entries behind w.fits w.sound r.one_more) w.room
     (subst (λ (l : List ℕ). HasWrongEdge w.kind w.dimension l (length w.before)) (sym (behind_read w.kind w.dimension front w.entries behind r.one_more)) wrong)
 
 pub wrong_edge_stops : (bytes : List ℕ) (place : ℕ) → WrongEdgeStops bytes place
@@ -263,7 +263,7 @@ passes_head bytes c =
     let more = drop 16 (table_bytes t) in
     let same : take 16 bytes ++ more ≡ table_bytes t =
     ap (λ (l : List ℕ). l ++ more) (ap (λ (l : List ℕ). take 16 l) c.split ∙ take-append-le 16 (table_bytes t) c.rest (table_long t))
-        ∙ take-append-drop 16 (table_bytes t) in
+    ∙ take-append-drop 16 (table_bytes t) in
     begins_entries c.kind c.dimension c.entries (take 16 bytes) more c.fits c.sound (omega (arith, c.room)) same
 
 low_short : (bytes : List ℕ) (p q : ℕ) → StopsAt bytes p → p < 16 → HasTableFault bytes (short_fault q) → ⊥
@@ -304,7 +304,7 @@ extra_once bytes p q f g = elim (cases_lt p q) [
   | inl lt ↦ absurd (whole_below bytes p q lt (omega (arith, g.0)) f.1 (whole_begins (take q bytes) g.1))
   | inr ge ↦
       elim (cases_lt q p)
-          [ inl lt ↦ absurd (whole_below bytes q p lt (omega (arith, f.0)) g.1 (whole_begins (take p bytes) f.1)) | inr le ↦ omega arith ]
+      [ inl lt ↦ absurd (whole_below bytes q p lt (omega (arith, f.0)) g.1 (whole_begins (take p bytes) f.1)) | inr le ↦ omega arith ]
 ]
 
 pub same_fault : (bytes : List ℕ) (f g : TableFault) → HasTableFault bytes f → HasTableFault bytes g → f ≡ g

@@ -36,7 +36,7 @@ stops_later bytes place later row h s = λ inside e.
     let head = head_bytes 1 row.0 row.1 in
     s (omega arith)
     (sym (take-take (place + 1) (later + 1) bytes (omega arith)) ∙ ap (λ (l : List ℕ). take (place + 1) l) e
-         ∙ take-take (place + 1) (later + 1) head (omega arith))
+    ∙ take-take (place + 1) (later + 1) head (omega arith))
 
 stops_there : (bytes : List ℕ) (kind : Kind) (d places later : ℕ) → IsAgreement bytes (head_bytes 1 kind d) places → places ≢ 16 → places ≤ later
     → StopsRow bytes later (kind, d)
@@ -48,7 +48,7 @@ stops_there bytes kind d places later a ne h =
     let head = head_bytes 1 kind d in
     a.ends short inside
     (sym (get_or-take (places + 1) bytes places 0 (omega arith)) ∙ ap (λ (l : List ℕ). slice_index l places) e
-        ∙ get_or-take (places + 1) head places 0 (omega arith)))
+    ∙ get_or-take (places + 1) head places 0 (omega arith)))
 
 -- one more row
 pub reached_more : (bytes : List ℕ) (reached index later : ℕ) (row : Kind × ℕ) (places : ℕ) → HasReached bytes reached index → index < 7
@@ -56,7 +56,7 @@ pub reached_more : (bytes : List ℕ) (reached index later : ℕ) (row : Kind ×
     → later < 16 → later ≤ length bytes → BeginsHead bytes later → reached ≤ later → places ≤ later → HasReached bytes later (index + 1)
 reached_more bytes reached index later row places r inside is a ne short long begun after there =
     let stopped =
-        All-weaker (StopsRow bytes reached) (StopsRow bytes later) (λ row s. stops_later bytes reached later row after s) (take index rows) r.stopped in
+    All-weaker (StopsRow bytes reached) (StopsRow bytes later) (λ row s. stops_later bytes reached later row after s) (take index rows) r.stopped in
     let this = subst (λ (row : Kind × ℕ). StopsRow bytes later row) (sym is) (stops_there bytes row.0 row.1 places later a ne there) in
     record { short = short; inside = long; begun = begun; stopped = All-more (StopsRow bytes later) rows index row inside stopped this }
 
@@ -91,7 +91,7 @@ stops_in_head bytes reached index r all = record {
   stopped = λ inside b.
       let s = stands_among b.kind b.dimension b.fits in
       let here : All (StopsRow bytes reached) rows =
-          subst (λ (l : List (Kind × ℕ)). All (StopsRow bytes reached) l) (take_all index rows (omega arith)) r.stopped in
+      subst (λ (l : List (Kind × ℕ)). All (StopsRow bytes reached) l) (take_all index rows (omega arith)) r.stopped in
       let stops = subst (λ (row : Kind × ℕ). StopsRow bytes reached row) s.is (here s.index (b.kind, b.dimension) s.inside) in
       stops inside b.same;
 }

@@ -31,7 +31,7 @@ pub table_bytes-push : (kind : Kind) (d : ℕ) (es : List (List (List ℕ))) (ws
 unfolding table_bytes
 table_bytes-push kind d es ws =
     ap (λ (l : List ℕ). head_bytes 1 kind d ++ l)
-        (flat_map-append entry_bytes es (ws ∷ []) ∙ ap (λ (l : List ℕ). flat_map entry_bytes es ++ l) (append-nil (entry_bytes ws)))
+    (flat_map-append entry_bytes es (ws ∷ []) ∙ ap (λ (l : List ℕ). flat_map entry_bytes es ++ l) (append-nil (entry_bytes ws)))
     ∙ sym (append_assoc (head_bytes 1 kind d) (flat_map entry_bytes es) (entry_bytes ws))
 
 pub read_none : (kind : Kind) (d : ℕ) (bytes : List ℕ) → HasHead bytes kind d → HasRead kind d bytes [] 16
@@ -79,8 +79,8 @@ pub labels_same : (kind : Kind) (d : ℕ) (es : List (List (List ℕ))) (u : Tab
     → length u.entries ≡ label_count kind d
 labels_same kind d es u x y is r =
     is.whole
-        ∙ subst (λ (k : Kind). label_count k u.dimension ≡ label_count kind d) r.same_kind_of
-              (subst (λ (n : ℕ). label_count kind n ≡ label_count kind d) r.same_dimension refl)
+    ∙ subst (λ (k : Kind). label_count k u.dimension ≡ label_count kind d) r.same_kind_of
+    (subst (λ (n : ℕ). label_count kind n ≡ label_count kind d) r.same_dimension refl)
 
 pub goes_on_as : (kind : Kind) (d : ℕ) (bytes : List ℕ) (es : List (List (List ℕ))) (place : ℕ) → HasRead kind d bytes es place → length es ≤ label_count kind d
     → (u : Table) (more : List ℕ) → SpellsTable (bytes ++ more) u → GoesOnAs kind d es (drop place bytes) more
@@ -93,13 +93,12 @@ goes_on_as kind d bytes es place r few u more s =
       further = on.on.further;
       sound = All-further (IsEntry kind d) es on.on.further u.entries on.on.is on.sound;
       labels =
-          omega
-              (
-                arith,
-                labels_same kind d es u (drop place bytes ++ more) [] s.0 on,
-                ap (λ (l : List (List (List ℕ))). length l) on.on.is,
-                length-append es on.on.further
-              );
+          omega (
+            arith,
+            labels_same kind d es u (drop place bytes ++ more) [] s.0 on,
+            ap (λ (l : List (List (List ℕ))). length l) on.on.is,
+            length-append es on.on.further,
+          );
       on = on.on.rest ∙ append-nil (flat_map entry_bytes on.on.further);
     }
 

@@ -124,8 +124,16 @@ whole_count (a ∷ b ∷ e ∷ f ∷ rest) h = elim (cases_lt b 256) [
       | inl z ↦ elim (cases_lt (a * 16777216 + b * 65536 + e * 256 + f) 268435457) [
         | inl few ↦ inl (a * 16777216 + b * 65536 + e * 256 + f, (omega arith, four a b e f (omega arith) x y z))
         | inr many ↦ inr (λ count s.
-            omega (arith, s.0, many, ap (λ (l : List ℕ). slice_index l 0) s.1, ap (λ (l : List ℕ). slice_index l 1) s.1, ap
-                (λ (l : List ℕ). slice_index l 2) s.1, ap (λ (l : List ℕ). slice_index l 3) s.1))
+            omega (
+              arith,
+              s.0,
+              many,
+              ap (λ (l : List ℕ). slice_index l 0) s.1,
+              ap (λ (l : List ℕ). slice_index l 1) s.1,
+              ap
+                  (λ (l : List ℕ). slice_index l 2) s.1,
+              ap (λ (l : List ℕ). slice_index l 3) s.1,
+            ))
       ]
       | inr great ↦ inr (λ count s. omega (arith, great, ap (λ (l : List ℕ). slice_index l 3) s.1))
     ]
@@ -144,7 +152,7 @@ whole_count (a ∷ b ∷ e ∷ f ∷ rest) h = elim (cases_lt b 256) [
         let last : n % 256 ≡ f = omega arith in
         ap (λ x. x ∷ b ∷ e ∷ f ∷ []) (sym first) ∙ ap (λ x. n / 16777216 % 256 ∷ x ∷ e ∷ f ∷ []) (sym second)
         ∙ ap (λ x. n / 16777216 % 256 ∷ n / 65536 % 256 ∷ x ∷ f ∷ []) (sym third)
-            ∙ ap (λ x. n / 16777216 % 256 ∷ n / 65536 % 256 ∷ n / 256 % 256 ∷ x ∷ []) (sym last)
+        ∙ ap (λ x. n / 16777216 % 256 ∷ n / 65536 % 256 ∷ n / 256 % 256 ∷ x ∷ []) (sym last)
 
 -- the first member that is not below a bound
 record FirstOver (most : ℕ) (xs : List ℕ) : Type 0 where
@@ -160,13 +168,12 @@ first_over most (x ∷ xs) = elim (cases_lt x most) [
     | inl all ↦ inl (All-cons (λ e. e < most) x xs low all)
     | inr f ↦
         inr
-            (record
-                 {
-                   place = suc f.place;
-                   inside = omega (arith, f.inside);
-                   before = All-cons (λ e. e < most) x (take f.place xs) low f.before;
-                   over = f.over
-                 })
+        (record {
+          place = suc f.place;
+          inside = omega (arith, f.inside);
+          before = All-cons (λ e. e < most) x (take f.place xs) low f.before;
+          over = f.over;
+        })
   ]
   | inr high ↦ inr (record { place = 0; inside = omega arith; before = All-nil (λ e. e < most); over = high })
 ]
@@ -216,8 +223,8 @@ behind_count kind d bytes es place count r few b =
             let here = take (count * d) behind in
             let tuples = first_chunks d (length here / d) here in
             entry_stands kind d bytes place tuples
-                (entry_at kind d count front behind most bytes place (count * d) tuples f (omega (arith, (small_counts kind d r.fits).some)) refl long
-                     all refl)
+            (entry_at kind d count front behind most bytes place (count * d) tuples f (omega (arith, (small_counts kind d r.fits).some)) refl long
+            all refl)
         | inr w ↦ edge_found kind d bytes es place w.place r few
             (wrong_edge_at kind d count front behind most bytes place (count * d) w.place f (omega arith) w.inside w.before w.over)
       ]
@@ -248,7 +255,7 @@ rest_cases zero kind d bytes es place r left = elim (cases_lt place (length byte
 rest_cases (suc n) kind d bytes es place r left = elim (next_cases kind d bytes es place r (omega arith)) [
   | inl e ↦
       rest_cases n kind d bytes (es ++ e.0 ∷ []) (place + 4 + length e.0 * d) (read_more kind d bytes es place e.0 r e.1)
-          (omega (arith, left, length_push es e.0))
+      (omega (arith, left, length_push es e.0))
   | inr fault ↦ inr fault
 ]
 

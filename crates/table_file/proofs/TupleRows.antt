@@ -39,73 +39,66 @@ pub small_counts : (kind : Kind) (d : ℕ) → HasDimension kind d → HasSmallC
 small_counts =
     let by : (kind : Kind) (d : ℕ) → Type 0 = λ kind d. HasSmallCounts kind d in
     each_row by
-    (record
-         {
-           some = omega arith;
-           dimension = omega arith;
-           corners = omega arith;
-           edges = omega arith;
-           some_edges = omega arith;
-           labels = omega arith;
-           shifted = refl
-         })
-    (record
-         {
-           some = omega arith;
-           dimension = omega arith;
-           corners = omega arith;
-           edges = omega arith;
-           some_edges = omega arith;
-           labels = omega arith;
-           shifted = refl
-         })
-    (record
-         {
-           some = omega arith;
-           dimension = omega arith;
-           corners = omega arith;
-           edges = omega arith;
-           some_edges = omega arith;
-           labels = omega arith;
-           shifted = refl
-         })
-    (record
-         {
-           some = omega arith;
-           dimension = omega arith;
-           corners = omega arith;
-           edges = omega arith;
-           some_edges = omega arith;
-           labels = omega arith;
-           shifted = refl
-         })
-    (record
-         {
-           some = omega arith;
-           dimension = omega arith;
-           corners = omega arith;
-           edges = omega arith;
-           some_edges = omega arith;
-           labels = omega arith;
-           shifted = refl
-         })
-    (record
-         {
-           some = omega arith;
-           dimension = omega arith;
-           corners = omega arith;
-           edges = omega arith;
-           some_edges = omega arith;
-           labels = omega arith;
-           shifted = refl
-         })
-    (record
-         {
-           some = omega arith;
-           dimension = omega arith;
-           corners = omega arith;
-           edges = omega arith;
-           some_edges = omega arith;
-           labels = omega arith;
-           shifted = refl
-         })
+    (record {
+      some = omega arith;
+      dimension = omega arith;
+      corners = omega arith;
+      edges = omega arith;
+      some_edges = omega arith;
+      labels = omega arith;
+      shifted = refl;
+    })
+    (record {
+      some = omega arith;
+      dimension = omega arith;
+      corners = omega arith;
+      edges = omega arith;
+      some_edges = omega arith;
+      labels = omega arith;
+      shifted = refl;
+    })
+    (record {
+      some = omega arith;
+      dimension = omega arith;
+      corners = omega arith;
+      edges = omega arith;
+      some_edges = omega arith;
+      labels = omega arith;
+      shifted = refl;
+    })
+    (record {
+      some = omega arith;
+      dimension = omega arith;
+      corners = omega arith;
+      edges = omega arith;
+      some_edges = omega arith;
+      labels = omega arith;
+      shifted = refl;
+    })
+    (record {
+      some = omega arith;
+      dimension = omega arith;
+      corners = omega arith;
+      edges = omega arith;
+      some_edges = omega arith;
+      labels = omega arith;
+      shifted = refl;
+    })
+    (record {
+      some = omega arith;
+      dimension = omega arith;
+      corners = omega arith;
+      edges = omega arith;
+      some_edges = omega arith;
+      labels = omega arith;
+      shifted = refl;
+    })
+    (record {
+      some = omega arith;
+      dimension = omega arith;
+      corners = omega arith;
+      edges = omega arith;
+      some_edges = omega arith;
+      labels = omega arith;
+      shifted = refl;
+    })

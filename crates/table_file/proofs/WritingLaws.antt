@@ -26,7 +26,7 @@ length-table_bytes-nil kind d = ap (λ (l : List ℕ). length l) (table_bytes-ni
 pub written_all : (t : Table) (d i : ℕ) → t.dimension ≡ d → length t.entries ≤ i → table_bytes (table_of t.kind d (take i t.entries)) ≡ table_bytes t
 written_all t d i same h =
     ap (λ (l : List (List (List ℕ))). table_bytes (table_of t.kind d l)) (take_all i t.entries h)
-        ∙ ap (λ (n : ℕ). table_bytes (table_of t.kind n t.entries)) (sym same)
+    ∙ ap (λ (n : ℕ). table_bytes (table_of t.kind n t.entries)) (sym same)
 
 -- the length of one more entry, and how long entries are at most
 pub record IsLonger (kind : Kind) (d : ℕ) (es : List (List (List ℕ))) (i long : ℕ) (tuples : List (List ℕ)) : Type 0 where
@@ -46,23 +46,22 @@ longer kind d es i long tuples fits h is read s =
     let long_flat = ap (λ (l : List (List ℕ)). length (flat_map (λ (w : List ℕ). w) l)) read in
     record {
       is =
-          omega
-              (
-                arith,
-                is,
-                ap (λ (l : List ℕ). length l) (written_more kind d es i h),
-                length-append (front ++ count) flat,
-                length-append front count,
-                rows,
-                long_flat
-              );
+          omega (
+            arith,
+            is,
+            ap (λ (l : List ℕ). length l) (written_more kind d es i h),
+            length-append (front ++ count) flat,
+            length-append front count,
+            rows,
+            long_flat,
+          );
       few = entry_few (length tuples) d s.0 (small_counts kind d fits).dimension;
     }
 
 -- one more entry was put behind the others
 pub put_entry : (kind : Kind) (d : ℕ) (es : List (List (List ℕ))) (i : ℕ) (before middle after count flat : List ℕ) (tuples : List (List ℕ)) → i < length es
     → before ≡ table_bytes (table_of kind d (take i es)) → tuples ≡ get_or es i [] → count ≡ big_endian 4 (length tuples)
-        → flat ≡ flat_map (λ (w : List ℕ). w) tuples
+    → flat ≡ flat_map (λ (w : List ℕ). w) tuples
     → middle ≡ before ++ count → after ≡ middle ++ flat → after ≡ table_bytes (table_of kind d (take (i + 1) es))
 put_entry kind d es i before middle after count flat tuples h is read counted flattened put_count put_flat =
     let start = table_bytes (table_of kind d (take i es)) in
@@ -83,7 +82,7 @@ spelled_once bytes t u a b =
     let r = table_reads_on t.kind t.dimension t.entries u [] [] b.0 a.0.sound few whole in
     let labels = labels_same t.kind t.dimension t.entries u [] [] b.0 r in
     let long : length r.on.further ≡ 0 =
-        omega (arith, a.0.whole, labels, ap (λ (l : List (List (List ℕ))). length l) r.on.is, length-append t.entries r.on.further) in
+    omega (arith, a.0.whole, labels, ap (λ (l : List (List (List ℕ))). length l) r.on.is, length-append t.entries r.on.further) in
     let entries : u.entries ≡ t.entries =
-        r.on.is ∙ ap (λ (l : List (List (List ℕ))). t.entries ++ l) (nil_from_length r.on.further long) ∙ append-nil t.entries in
+    r.on.is ∙ ap (λ (l : List (List (List ℕ))). t.entries ++ l) (nil_from_length r.on.further long) ∙ append-nil t.entries in
     same_tables t.kind u.kind t.dimension u.dimension t.entries u.entries r.same_kind_of r.same_dimension (sym entries)

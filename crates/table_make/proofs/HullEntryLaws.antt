@@ -63,7 +63,7 @@ entries_table kind d n entries has e are = record {
   whole = are.count ∙ e;
   sound =
       All-from_get_or (IsEntry kind d) entries []
-          (λ label h. entry_sound kind d label (slice_index_or entries label []) has (are.each label (let c = are.count in omega arith)));
+      (λ label h. entry_sound kind d label (slice_index_or entries label []) has (are.each label (let c = are.count in omega arith)));
 }
 
 -- one entry more
@@ -83,4 +83,4 @@ one_more_entry kind d n entries more entry are is e = record {
         let z : label - n ≡ 0 = omega arith in
         subst (λ (k : ℕ). IsEntryOf kind d k (slice_index_or (entries ++ entry ∷ []) label [])) s
         (subst (IsEntryOf kind d n)
-             (sym (get_or-append_right entries (entry ∷ []) n label [] are.count l ∙ ap (λ (k : ℕ). slice_index_or (entry ∷ []) k []) z)) is)
+        (sym (get_or-append_right entries (entry ∷ []) n label [] are.count l ∙ ap (λ (k : ℕ). slice_index_or (entry ∷ []) k []) z)) is)

@@ -5,7 +5,7 @@ pub returns : goal.returns
 returns g c =
     let suits = suits_grid g.C.Cell.KIND g.row.D c.args.complex.now c.args.grid.now c.args.table.now c.table.result.now
     c.requires.regular c.table.ensures.whole c.table.ensures.accepted c.table.ensures.kind c.table.ensures.dimension c.table.ensures.same
-        c.cells.ensures.axes c.requires.sizes in
+    c.cells.ensures.axes c.requires.sizes in
     record {
       closed = closed g.C.Cell.KIND c.args.grid.now c.args.table.now c.args.iso suits;
       placed = placed g.C.Cell.KIND c.args.grid.now c.args.table.now c.args.iso suits;

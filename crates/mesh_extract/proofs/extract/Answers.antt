@@ -15,5 +15,5 @@ returns-clause-surface g c =
     let same : to_z w64 (of_z w64 c.args.iso) ≡ c.args.iso = to_z-of_z w64 c.args.iso fits in
     surface_of g.C.Cell.KIND c.args.grid.now c.table.result.now c.args.iso (to_z w64 (of_z w64 c.args.iso)) c.place.result
     (suits g.C.Cell.KIND g.row.D c.args.grid.now c.table.result.now c.requires.regular c.table.ensures.whole c.table.ensures.accepted
-         c.table.ensures.kind c.table.ensures.dimension c.requires.axes)
+    c.table.ensures.kind c.table.ensures.dimension c.requires.axes)
     same c.place.ensures.mesh

@@ -8,5 +8,5 @@ use Rattle.case_patch.proofs.boundary.boundary_sets.Given as goal
 abbrev pub invariant-loop-facet : goal.invariant-loop-facet
 invariant-loop-facet g l =
     l.sets.items
-        ≡ map (λ f. set_number (filter (is_in_facet g.C.Cell.KIND g.row.D l.edges l.corners f) (numbers (length l.edges + length l.corners))))
-              (numbers l.facet)
+    ≡ map (λ f. set_number (filter (is_in_facet g.C.Cell.KIND g.row.D l.edges l.corners f) (numbers (length l.edges + length l.corners))))
+    (numbers l.facet)

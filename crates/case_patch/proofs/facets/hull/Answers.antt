@@ -27,18 +27,23 @@ facets-requires g c =
     let points : c.deref-3.result.now ≡ label_points g.C.Cell.KIND g.row.D c.args.label =
     c.deref-3.ensures.value ∙ c.in_ok-points.ensures
     ∙ ap
-        (λ (es : List ℕ).
-             map (λ e. map pos (edge_midpoint g.C.Cell.KIND g.row.D e)) es
-                 ++ map (λ k. map (λ x. pos (2 * x)) (corner_point g.C.Cell.KIND g.row.D k)) c.deref-2.result.now)
-        edges
+    (λ (es : List ℕ).
+    map (λ e. map pos (edge_midpoint g.C.Cell.KIND g.row.D e)) es
+    ++ map (λ k. map (λ x. pos (2 * x)) (corner_point g.C.Cell.KIND g.row.D k)) c.deref-2.result.now)
+    edges
     ∙ ap
-        (λ (ks : List ℕ).
-             map (λ e. map pos (edge_midpoint g.C.Cell.KIND g.row.D e)) (label_edges g.C.Cell.KIND g.row.D c.args.label)
-                 ++ map (λ k. map (λ x. pos (2 * x)) (corner_point g.C.Cell.KIND g.row.D k)) ks)
-        corners in
+    (λ (ks : List ℕ).
+    map (λ e. map pos (edge_midpoint g.C.Cell.KIND g.row.D e)) (label_edges g.C.Cell.KIND g.row.D c.args.label)
+    ++ map (λ k. map (λ x. pos (2 * x)) (corner_point g.C.Cell.KIND g.row.D k)) ks)
+    corners in
     let number : length c.deref-3.result.now ≤ 48 =
-        omega (arith, ap length points, points_length g.C.Cell.KIND g.row.D c.args.label, few_points g.C.Cell.KIND g.row.D c.args.label
-            g.met.C.Cell.has_dimension) in (
+    omega (
+      arith,
+      ap length points,
+      points_length g.C.Cell.KIND g.row.D c.args.label,
+      few_points g.C.Cell.KIND g.row.D c.args.label
+          g.met.C.Cell.has_dimension,
+    ) in (
       row_fits g.row.D g.met.C.Cell.is_dimension,
       (
         omega (arith, g.met.C.Cell.is_dimension),
@@ -47,8 +52,8 @@ facets-requires g c =
           (
             number,
             subst (λ (ps : List (List ℤ)). All (λ p. AreSmall 32 p) ps) (sym points)
-                (points_small g.C.Cell.KIND g.row.D c.args.label g.met.C.Cell.is_dimension g.met.C.Cell.has_dimension)
-          )
+                (points_small g.C.Cell.KIND g.row.D c.args.label g.met.C.Cell.is_dimension g.met.C.Cell.has_dimension),
+          ),
         ),
       ),
     )
@@ -60,13 +65,13 @@ returns g c =
     let points : c.deref-3.result.now ≡ label_points g.C.Cell.KIND g.row.D c.args.label =
     c.deref-3.ensures.value ∙ c.in_ok-points.ensures
     ∙ ap
-        (λ (es : List ℕ).
-             map (λ e. map pos (edge_midpoint g.C.Cell.KIND g.row.D e)) es
-                 ++ map (λ k. map (λ x. pos (2 * x)) (corner_point g.C.Cell.KIND g.row.D k)) c.deref-2.result.now)
-        edges
+    (λ (es : List ℕ).
+    map (λ e. map pos (edge_midpoint g.C.Cell.KIND g.row.D e)) es
+    ++ map (λ k. map (λ x. pos (2 * x)) (corner_point g.C.Cell.KIND g.row.D k)) c.deref-2.result.now)
+    edges
     ∙ ap
-        (λ (ks : List ℕ).
-             map (λ e. map pos (edge_midpoint g.C.Cell.KIND g.row.D e)) (label_edges g.C.Cell.KIND g.row.D c.args.label)
-                 ++ map (λ k. map (λ x. pos (2 * x)) (corner_point g.C.Cell.KIND g.row.D k)) ks)
-        corners in
+    (λ (ks : List ℕ).
+    map (λ e. map pos (edge_midpoint g.C.Cell.KIND g.row.D e)) (label_edges g.C.Cell.KIND g.row.D c.args.label)
+    ++ map (λ k. map (λ x. pos (2 * x)) (corner_point g.C.Cell.KIND g.row.D k)) ks)
+    corners in
     subst (λ (ps : List (List ℤ)). IfOk c.facets.result (λ facets. AreFacetNumbers g.row.D ps facets.items)) points c.facets.ensures

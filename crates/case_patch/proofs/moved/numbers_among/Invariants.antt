@@ -7,5 +7,5 @@ use Rattle.case_patch.proofs.moved.numbers_among.Given as goal
 abbrev pub invariant-loop-point : goal.invariant-loop-point
 invariant-loop-point g l =
     l.list.items
-        ≡ map (carried_among g.row.D (record { axes = l.by.axes; flips = l.by.flips }) l.edges l.corners l.moved_edges l.moved_corners)
-              (numbers l.point)
+    ≡ map (carried_among g.row.D (record { axes = l.by.axes; flips = l.by.flips }) l.edges l.corners l.moved_edges l.moved_corners)
+    (numbers l.point)

@@ -11,10 +11,10 @@ returns-then-lies_off g c =
     let off : is_off c.args.facet c.args.boundary.now ≡ true = sym c.lies_off.ensures ∙ c.if-lies_off.true in
     OnOk-weaker c.add_facet.result
     (Adds (IsTupleOf (Contains (map point_set c.args.facets.now)) g.row.D c.args.edges.now (point_set c.args.facet)) c.args.tuples.now.items
-         c.add_facet.new.tuples.items)
+    c.add_facet.new.tuples.items)
     (Adds (IsOffTuple (Contains (map point_set c.args.facets.now)) c.args.boundary.now g.row.D c.args.edges.now c.args.facet) c.args.tuples.now.items
-         c.add_facet.new.tuples.items)
+    c.add_facet.new.tuples.items)
     (adds_same (IsTupleOf (Contains (map point_set c.args.facets.now)) g.row.D c.args.edges.now (point_set c.args.facet))
     (IsOffTuple (Contains (map point_set c.args.facets.now)) c.args.boundary.now g.row.D c.args.edges.now c.args.facet) c.args.tuples.now.items
-        c.add_facet.new.tuples.items (λ t. (λ p. (off, p), λ q. q.1)))
+    c.add_facet.new.tuples.items (λ t. (λ p. (off, p), λ q. q.1)))
     c.add_facet.ensures

@@ -26,7 +26,7 @@ patch_moved-requires g c =
                   subst (λ (xs : List ℕ). AreFacetNumbers g.row.D (label_points g.C.Cell.KIND g.row.D other) xs) (sym c.deref.ensures.value)
                   (subst (λ (m : ℕ). AreFacetNumbers g.row.D (label_points g.C.Cell.KIND g.row.D m) c.in_ok-facets.facets.items)
                   (carried_once g.row.D by (undone g.row.D by) (undone_is g.row.D is by least.is_move) c.args.label c.least_label-class.result.0 other
-                      least.carries carries) c.in_ok-facets.ensures),
+                  least.carries carries) c.in_ok-facets.ensures),
             ),
           ),
         ),

@@ -26,19 +26,19 @@ carried_sets-requires-clause-members g c =
     numbers_small g.row.D is by (undone g.row.D by) (undone_is g.row.D is by c.requires.is_move) c.args.label other
     (cube_label g.C.Cell.KIND g.row.D g.C.Cell.CORNERS c.args.label c.requires.kind g.met.C.Cell.corners c.requires.label) c.in_ok-numbers.ensures.carries 64
     (omega (arith, points_length Cube g.row.D other, few_points Cube g.row.D other has)) c.deref.result.now
-        (c.deref.ensures.value ∙ c.in_ok-numbers.ensures.numbered)
+    (c.deref.ensures.value ∙ c.in_ok-numbers.ensures.numbered)
 
 pub carried_sets-requires-clause-few : goal.carried_sets-requires-clause-few
 carried_sets-requires-clause-few g c =
     let by : Move = record { axes = c.args.by.now.axes; flips = c.args.by.now.flips } in
     let has : HasDimension Cube g.row.D = few_axes g.row.D g.met.C.Cell.is_dimension in
     let list : c.deref.result.now
-        ≡ map (carried_point g.row.D by c.args.label c.in_ok-numbers.ensures.other) (numbers (length (label_points Cube g.row.D c.args.label))) =
+    ≡ map (carried_point g.row.D by c.args.label c.in_ok-numbers.ensures.other) (numbers (length (label_points Cube g.row.D c.args.label))) =
     c.deref.ensures.value ∙ c.in_ok-numbers.ensures.numbered in
     let long =
-        ap length list
-            ∙ length-map-range_with_len (carried_point g.row.D by c.args.label c.in_ok-numbers.ensures.other) 0
-                  (length (label_points Cube g.row.D c.args.label)) in
+    ap length list
+    ∙ length-map-range_with_len (carried_point g.row.D by c.args.label c.in_ok-numbers.ensures.other) 0
+    (length (label_points Cube g.row.D c.args.label)) in
     omega (arith, long, points_length Cube g.row.D c.args.label, few_points Cube g.row.D c.args.label has)
 
 pub entry_with-requires : goal.entry_with-requires
@@ -48,7 +48,7 @@ entry_with-requires g c =
     let other = c.in_ok-numbers.ensures.other in
     let class : AreFacetNumbers g.row.D (label_points Cube g.row.D other) c.args.class.now =
     subst (λ (q : Kind). AreFacetNumbers g.row.D (label_points q g.row.D other) c.args.class.now) c.requires.kind
-        (c.requires.class other c.in_ok-numbers.ensures.carries) in
+    (c.requires.class other c.in_ok-numbers.ensures.carries) in
     let facets : AreAllFacets g.row.D (label_points Cube g.row.D c.args.label) (map (carried_by c.deref.result.now) c.args.class.now) =
     class_facets g.row.D is by (undone g.row.D by) (undone_is g.row.D is by c.requires.is_move) c.args.label other
     (cube_label g.C.Cell.KIND g.row.D g.C.Cell.CORNERS c.args.label c.requires.kind g.met.C.Cell.corners c.requires.label) c.in_ok-numbers.ensures.carries

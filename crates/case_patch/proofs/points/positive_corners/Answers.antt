@@ -8,8 +8,8 @@ pub loop-corner-preserved : goal.loop-corner-preserved
 loop-corner-preserved g c = elim c.if-has_member.branch [
   | then-has_member+in_ok-add_number w ↦ ap (λ v. v.items) w.corners-is
       ∙ kept_more (is_set c.args.label) c.loop-corner.corner c.loop-corner.corners.items w.add_number.new.numbers.items c.loop-corner.invariant
-          (sym c.has_member.ensures ∙ w.if-has_member.true) w.in_ok-add_number.ensures
+      (sym c.has_member.ensures ∙ w.if-has_member.true) w.in_ok-add_number.ensures
   | else-has_member w ↦ ap (λ v. v.items) w.corners-is
       ∙ kept_same (is_set c.args.label) c.loop-corner.corner c.loop-corner.corners.items c.loop-corner.invariant
-          (sym c.has_member.ensures ∙ w.if-has_member.false)
+      (sym c.has_member.ensures ∙ w.if-has_member.false)
 ]

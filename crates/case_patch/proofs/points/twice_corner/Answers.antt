@@ -10,8 +10,8 @@ pub returns : goal.returns
 returns g c =
     let below : c.args.corner < corner_count g.C.Cell.KIND g.row.D = subst (λ (n : ℕ). c.args.corner < n) g.met.C.Cell.corners c.requires in
     fill_by_all (λ i. slice_index_or c.corner_at-point.result i (pos 0) +ℤ slice_index_or c.corner_at-point.result i (pos 0)) c.loop-axis.twice
-        g.row.D (pos 0) c.loop-axis.invariant.0
+    g.row.D (pos 0) c.loop-axis.invariant.0
     (λ i h. c.loop-axis.invariant.1 i (omega arith))
     ∙ ap (λ (xs : List ℤ). map (λ i. slice_index_or xs i (pos 0) +ℤ slice_index_or xs i (pos 0)) (numbers g.row.D)) c.corner_at-point.ensures
     ∙ doubled_points g.row.D (corner_point g.C.Cell.KIND g.row.D c.args.corner)
-        (corner_is_point g.C.Cell.KIND g.row.D g.met.C.Cell.is_dimension g.met.C.Cell.has_dimension c.args.corner below).wide
+    (corner_is_point g.C.Cell.KIND g.row.D g.met.C.Cell.is_dimension g.met.C.Cell.has_dimension c.args.corner below).wide

@@ -16,7 +16,7 @@ difference-requires g c =
         subst (λ (xs : List ℤ). AreSmall 32 xs) (sym c.edge_mid.ensures)
             (small_point g.row.D 4 (edge_midpoint g.C.Cell.KIND g.row.D (slice_index c.args.tuple.now (c.args.place + 1))) (omega arith)
             (midpoint_is_point g.C.Cell.KIND g.row.D g.met.C.Cell.is_dimension g.met.C.Cell.has_dimension
-                (slice_index c.args.tuple.now (c.args.place + 1)) next)),
+            (slice_index c.args.tuple.now (c.args.place + 1)) next)),
         subst (λ (xs : List ℤ). AreSmall 32 xs) (sym c.edge_mid-then-place.ensures)
             (small_point g.row.D 4 (edge_midpoint g.C.Cell.KIND g.row.D (slice_index c.args.tuple.now 0)) (omega arith)
             (midpoint_is_point g.C.Cell.KIND g.row.D g.met.C.Cell.is_dimension g.met.C.Cell.has_dimension (slice_index c.args.tuple.now 0) first)),

@@ -30,7 +30,7 @@ returns g c =
       within = in_first;
       carries =
           subst (λ (m : ℕ). Carries g.row.D (flips_alone g.row.D c.loop-flips.first) c.args.label m) (sym is.is_there)
-              (c.by_flips-labels.ensures c.loop-flips.first in_first);
+          (c.by_flips-labels.ensures c.loop-flips.first in_first);
       is_least = λ f m h e.
           let same = flips_carry_once g.row.D f c.args.label (get_or labels f 0) m (c.by_flips-labels.ensures f h) e in
           let k = is.is_least f (omega arith) in

@@ -9,7 +9,7 @@ pub loop-next-init : goal.loop-next-init
 loop-next-init g c =
     let some = some_order g.row.D c.requires.dimension in
     least_at_first g.row.D c.requires.dimension some c.args.label (get_or c.by_orders-turned.result 0 0) c.least_flips-least.result.0
-        c.least_flips-least.result.1
+    c.least_flips-least.result.1
     (c.by_orders-turned.ensures 0 some) c.least_flips-least.ensures
 
 pub loop-next-preserved : goal.loop-next-preserved
@@ -23,14 +23,14 @@ loop-next-preserved g c =
           (subst (λ (n : ℕ). IsLeastSoFar g.row.D (c.loop-next.next + 1) c.args.label c.least_flips-other.result.0 n c.if-other-least.flips) (sym w.order-is)
           (subst (λ (n : ℕ). IsLeastSoFar g.row.D (c.loop-next.next + 1) c.args.label c.least_flips-other.result.0 c.loop-next.next n) (sym w.flips-is)
           (least_goes_on g.row.D c.requires.dimension c.loop-next.next inside c.args.label (get_or c.by_orders-turned.result c.loop-next.next 0)
-              c.loop-next.least c.loop-next.order c.loop-next.flips
+          c.loop-next.least c.loop-next.order c.loop-next.flips
           c.least_flips-other.result.0 c.least_flips-other.result.1 carried c.least_flips-other.ensures c.loop-next.invariant w.if-other-least.true)))
       | else-other-least w ↦
           subst (λ (n : ℕ). IsLeastSoFar g.row.D (c.loop-next.next + 1) c.args.label n c.if-other-least.order c.if-other-least.flips) (sym w.least-is)
           (subst (λ (n : ℕ). IsLeastSoFar g.row.D (c.loop-next.next + 1) c.args.label c.loop-next.least n c.if-other-least.flips) (sym w.order-is)
           (subst (λ (n : ℕ). IsLeastSoFar g.row.D (c.loop-next.next + 1) c.args.label c.loop-next.least c.loop-next.order n) (sym w.flips-is)
           (least_stays g.row.D c.requires.dimension c.loop-next.next inside c.args.label (get_or c.by_orders-turned.result c.loop-next.next 0)
-              c.loop-next.least c.loop-next.order c.loop-next.flips
+          c.loop-next.least c.loop-next.order c.loop-next.flips
           c.least_flips-other.result.0 c.least_flips-other.result.1 carried c.least_flips-other.ensures c.loop-next.invariant w.if-other-least.false)))
     ]
 

@@ -18,7 +18,7 @@ loop-flips-preserved g c =
       carried = below_more _ _
           (λ f h. let ne : f ≢ c.loop-flips.flips = omega arith in rw get_or-set_other (c.loop-flips.invariant.carried f h))
           (rw get_or-set_same
-               (step.carried c.args.label (get_or c.loop-flips.labels (fewer c.loop-flips.flips) 0) c.exchanged.result
-                    (record { below = c.exchanged.ensures.below; signs = c.exchanged.ensures.signs })
-                    (c.loop-flips.invariant.carried (fewer c.loop-flips.flips) step.earlier)));
+          (step.carried c.args.label (get_or c.loop-flips.labels (fewer c.loop-flips.flips) 0) c.exchanged.result
+          (record { below = c.exchanged.ensures.below; signs = c.exchanged.ensures.signs })
+          (c.loop-flips.invariant.carried (fewer c.loop-flips.flips) step.earlier)));
     }

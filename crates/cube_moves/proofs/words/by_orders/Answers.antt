@@ -29,7 +29,7 @@ loop-next-preserved g c =
       carried = below_more _ _
           (λ n h. let ne : n ≢ c.loop-next.next = omega arith in rw get_or-set_other (c.loop-next.invariant.carried n h))
           (rw get_or-set_same
-               (step.carried c.args.label (get_or c.loop-next.labels (step_at g.row.D c.loop-next.next).0 0) c.exchanged.result
-                    (record { below = c.exchanged.ensures.below; signs = c.exchanged.ensures.signs })
-                    (c.loop-next.invariant.carried (step_at g.row.D c.loop-next.next).0 step.earlier)));
+          (step.carried c.args.label (get_or c.loop-next.labels (step_at g.row.D c.loop-next.next).0 0) c.exchanged.result
+          (record { below = c.exchanged.ensures.below; signs = c.exchanged.ensures.signs })
+          (c.loop-next.invariant.carried (step_at g.row.D c.loop-next.next).0 step.earlier)));
     }

@@ -15,4 +15,4 @@ pub returns : goal.returns
 returns g c =
     fill_by_all (written g.row.D c.args.number) c.loop-axis.axes g.row.D 0 c.loop-axis.invariant.0 (λ i h. c.loop-axis.invariant.1 i (omega arith))
     ∙ agree_in_each (λ d. length (orders d)) (λ d n. map (written d n) (axes d)) order_of refl refl refl g.row.D c.requires.dimension c.args.number
-        c.requires.number
+    c.requires.number

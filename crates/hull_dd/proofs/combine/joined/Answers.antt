@@ -16,16 +16,16 @@ returns g c =
     let reduced : IsReduced whole.normal whole.bound c.reduce-half.result.normal c.reduce-half.result.bound =
     subst (λ (n : List ℤ). IsReduced n whole.bound c.reduce-half.result.normal c.reduce-half.result.bound) c.combination.ensures.normal
     (subst (λ (b : ℤ). IsReduced c.combination.result.normal b c.reduce-half.result.normal c.reduce-half.result.bound) c.combination.ensures.bound
-         c.reduce-half.ensures)
-        in
+    c.reduce-half.ensures)
+    in
     let new : Generator g.row.D = record {
       half = record { normal = c.reduce-half.result.normal; bound = c.reduce-half.result.bound };
       tight = bit_or (bit_and c.args.inside.now.tight c.args.outside.now.tight) (1 * 2 ^ c.args.i % 2 ^ 64);
     } in
     subst (λ (a : ℤ). IsJoined g.row.D c.args.i c.args.inside.now a c.args.outside.now c.args.below new)
-        (small-back (2 ^ 32) c.args.above (lit< tt) c.requires.above_small)
+    (small-back (2 ^ 32) c.args.above (lit< tt) c.requires.above_small)
     (subst (λ (b : ℤ). IsJoined g.row.D c.args.i c.args.inside.now (back c.args.above) c.args.outside.now b new)
-        (small-back (2 ^ 32) c.args.below (lit< tt) c.requires.below_small)
+    (small-back (2 ^ 32) c.args.below (lit< tt) c.requires.below_small)
     (joined_is g.row.D c.args.i c.args.inside.now (back c.args.above) c.args.outside.now (back c.args.below) new c.requires.number reduced
     (record {
       coefficients = c.if-not-are_small.ensures refl;

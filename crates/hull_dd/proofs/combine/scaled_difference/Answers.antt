@@ -10,7 +10,7 @@ facts : (g : given.Over) (c : goal.After-row-in-loop-i-1 g)
 facts g c =
     products c.args.p (get_or c.args.xs.now c.loop-i.i (pos 0)) c.args.q (get_or c.args.ys.now c.loop-i.i (pos 0))
     c.requires.p_small (coefficient c.args.xs.now c.loop-i.i c.requires.xs_small (omega arith)) c.requires.q_small
-        (coefficient c.args.ys.now c.loop-i.i c.requires.ys_small (omega arith))
+    (coefficient c.args.ys.now c.loop-i.i c.requires.ys_small (omega arith))
 
 pub overflow_mul-row-in-loop-i : goal.overflow_mul-row-in-loop-i
 overflow_mul-row-in-loop-i g c = (facts g c).second
@@ -23,11 +23,11 @@ loop-i-preserved g c = record {
   all = length-set _ _ _ ∙ c.loop-i.invariant.all;
   same =
       written_more c.loop-i.row c.loop-i.i _ (λ k. back c.args.p *ℤ get_or c.args.xs.now k (pos 0) -ℤ back c.args.q *ℤ get_or c.args.ys.now k (pos 0))
-          (omega arith)
+      (omega arith)
       ((facts g c).value
-           ∙ sym
-                 (factors_back c.args.p (get_or c.args.xs.now c.loop-i.i (pos 0)) c.args.q (get_or c.args.ys.now c.loop-i.i (pos 0))
-                      c.requires.p_small c.requires.q_small))
+      ∙ sym
+      (factors_back c.args.p (get_or c.args.xs.now c.loop-i.i (pos 0)) c.args.q (get_or c.args.ys.now c.loop-i.i (pos 0))
+      c.requires.p_small c.requires.q_small))
       c.loop-i.invariant.same;
 }
 
@@ -43,4 +43,4 @@ returns-clause-value g c = row_is c.args.p c.args.q c.loop-i.row c.args.xs.now c
 pub returns-clause-small : goal.returns-clause-small
 returns-clause-small g c =
     row_small c.args.p c.args.q c.loop-i.row c.args.xs.now c.args.ys.now (omega arith) (omega arith) c.requires.p_small c.requires.q_small
-        c.requires.xs_small c.requires.ys_small (same g c)
+    c.requires.xs_small c.requires.ys_small (same g c)

@@ -52,7 +52,7 @@ not_zero r s f e n z = n (ap (of_z w64) (sym (to_z-of_z w64 r f) ∙ e ∙ z))
 pub returns-then-distance-gt0 : goal.returns-then-distance-gt0
 returns-then-distance-gt0 g c =
     let d = distance (plain c.hyper-half.result) (point_at c.args.points.now c.args.apart) c.index-points-apart.result c.slack-distance.result
-        (record { sfits = c.slack-distance.type_inv }) c.slack-distance.ensures
+    (record { sfits = c.slack-distance.type_inv }) c.slack-distance.ensures
     (c.index-points-apart.is ∙ any_default c.args.points.now c.args.apart c.index-points-apart.result [] c.requires.apart) in
     this_side g.row.D c.args.points.now c.args.choice.now c.args.apart c.hyper-half.result c.set_of-tight.result
     (record {
@@ -64,19 +64,19 @@ returns-then-distance-gt0 g c =
       there = c.requires.apart;
       same =
           same_half c.hyper-half.result.normal c.hyper-half.result.bound c.points_at.result (members c.args.points.now c.args.choice.now)
-              c.hyper-half.ensures.normal c.hyper-half.ensures.bound c.points_at.ensures;
+          c.hyper-half.ensures.normal c.hyper-half.ensures.bound c.points_at.ensures;
       coefficients = c.hyper-half.ensures.coefficients;
       constant = c.hyper-half.ensures.constant;
       off =
           not_zero c.slack-distance.result (slack (plain c.hyper-half.result) (point_at c.args.points.now c.args.apart))
-              (record { sfits = c.slack-distance.type_inv }) d c.if-distance-eq0.false;
+          (record { sfits = c.slack-distance.type_inv }) d c.if-distance-eq0.false;
     })
     (subst (λ (z : ℤ). pos 0 <ℤ z) d (lt_z_yes (subst T (sym c.if-distance-gt0.true) tt))) c.set_of-tight.ensures
 
 pub returns : goal.returns
 returns g c =
     let d = distance (plain c.hyper-half.result) (point_at c.args.points.now c.args.apart) c.index-points-apart.result c.slack-distance.result
-        (record { sfits = c.slack-distance.type_inv }) c.slack-distance.ensures
+    (record { sfits = c.slack-distance.type_inv }) c.slack-distance.ensures
     (c.index-points-apart.is ∙ any_default c.args.points.now c.args.apart c.index-points-apart.result [] c.requires.apart) in
     other_side g.row.D c.args.points.now c.args.choice.now c.args.apart c.hyper-half.result c.combination.result c.set_of-tight.result
     (record {
@@ -88,13 +88,13 @@ returns g c =
       there = c.requires.apart;
       same =
           same_half c.hyper-half.result.normal c.hyper-half.result.bound c.points_at.result (members c.args.points.now c.args.choice.now)
-              c.hyper-half.ensures.normal c.hyper-half.ensures.bound c.points_at.ensures;
+          c.hyper-half.ensures.normal c.hyper-half.ensures.bound c.points_at.ensures;
       coefficients = c.hyper-half.ensures.coefficients;
       constant = c.hyper-half.ensures.constant;
       off =
           not_zero c.slack-distance.result (slack (plain c.hyper-half.result) (point_at c.args.points.now c.args.apart))
-              (record { sfits = c.slack-distance.type_inv }) d c.if-distance-eq0.false;
+          (record { sfits = c.slack-distance.type_inv }) d c.if-distance-eq0.false;
     })
     (subst (λ (z : ℤ). ¬ (pos 0 <ℤ z)) d (not_less (pos 0) (back c.slack-distance.result) c.if-distance-gt0.false)) c.set_of-tight.ensures
     (same_plain c.combination.result.normal c.combination.result.bound
-         (combined (pos 0) (plain c.hyper-half.result) (pos 1) (plain c.hyper-half.result)) c.combination.ensures.normal c.combination.ensures.bound)
+    (combined (pos 0) (plain c.hyper-half.result) (pos 1) (plain c.hyper-half.result)) c.combination.ensures.normal c.combination.ensures.bound)

@@ -14,7 +14,7 @@ slacks_are : (g : given.Over) (c : goal.In_ok-stay g) → c.measure.new.slacks.i
 slacks_are g c =
     c.in_ok-measure.ensures.value
     ∙ ap (λ (x : List ℤ). slacks_at x c.args.generators.now)
-        (c.index-points-i.is ∙ any_default c.args.points.now c.args.i c.index-points-i.result [] c.requires.inside)
+    (c.index-points-i.is ∙ any_default c.args.points.now c.args.i c.index-points-i.result [] c.requires.inside)
 
 measured : (g : given.Over) (c : goal.In_ok-stay g) (set : ℕ) → Generate g.row.D c.args.points.now set c.args.generators.now → (slacks : List ℤ)
     → slacks ≡ c.measure.new.slacks.items

@@ -32,10 +32,10 @@ pub loop-k-preserved : goal.loop-k-preserved
 loop-k-preserved g c = record {
   on =
       on_more g.row.D c.args.i c.args.generators.now c.args.slacks.now c.args.next.now c.loop-k.k c.index-generators-k.result (omega arith)
-          c.index-generators-k.is (on_here g c) c.loop-k.invariant.on;
+      c.index-generators-k.is (on_here g c) c.loop-k.invariant.on;
   meets =
       pairs_more g.row.D c.args.i c.args.generators.now c.args.slacks.now c.args.next.now c.loop-k.k c.index-generators-k.result (omega arith)
-          c.index-generators-k.is (meets_here g c) c.loop-k.invariant.meets;
+      c.index-generators-k.is (meets_here g c) c.loop-k.invariant.meets;
 }
 
 pub returns : goal.returns

@@ -13,7 +13,7 @@ loop-k-preserved g c = elim c.if-slacks-k-lt0.branch [
   | then-slacks-k-lt0+then-set+then-not-is_within_some+in-Some+in_ok-keep-in-Some w ↦
       join_more g.row.D c.args.i c.args.inside.now (back c.args.above) c.args.generators.now c.args.slacks.now
       c.args.next.now.items c.loop-k.next.items c.if-slacks-k-lt0.next.items c.loop-k.k c.index-generators-k.result w.in-Some.new c.loop-k.invariant
-          (omega arith) c.index-generators-k.is
+      (omega arith) c.index-generators-k.is
       (tested_below c.args.slacks.now c.loop-k.k c.requires.small (omega arith) w.if-slacks-k-lt0.true)
       (subst (λ (s : ℤ). IsJoined g.row.D c.args.i c.args.inside.now (back c.args.above) c.index-generators-k.result s w.in-Some.new)
       (slack_back c.args.slacks.now c.loop-k.k c.requires.small (omega arith)) w.in-Some.ensures)

@@ -11,22 +11,21 @@ returns-then-not-is_entry g c = (
   λ all. c.if-not-is_entry.ensures.1
       (rw c.deref.ensures.value
       (sound_at c.args.entries.now (λ entry. entry.items) (IsEntry c.args.kind g.row.D) c.loop-entry.entry-index c.entry-item.result
-          c.loop-entry-test.true c.entry-item.is all.1)),
+      c.loop-entry-test.true c.entry-item.is all.1)),
 )
 
 pub loop-entry-preserved : goal.loop-entry-preserved
 loop-entry-preserved g c =
     mapped_more c.args.entries.now (λ entry. entry.items) (IsEntry c.args.kind g.row.D) c.loop-entry.entry-index c.entry-item.result
-        c.loop-entry-test.true c.entry-item.is c.loop-entry.invariant
+    c.loop-entry-test.true c.entry-item.is c.loop-entry.invariant
     (rw (← c.deref.ensures.value) (c.if-not-is_entry.ensures.0 refl))
 
 pub returns : goal.returns
 returns g c = (
-  λ _.
-      (
-        c.if-entries-labels.false ∙ c.labels.ensures,
-        mapped_all c.args.entries.now (λ entry. entry.items) (IsEntry c.args.kind g.row.D) c.loop-entry.entry-index c.loop-entry-test.false
-            c.loop-entry.invariant
-      ),
+  λ _. (
+    c.if-entries-labels.false ∙ c.labels.ensures,
+    mapped_all c.args.entries.now (λ entry. entry.items) (IsEntry c.args.kind g.row.D) c.loop-entry.entry-index c.loop-entry-test.false
+        c.loop-entry.invariant,
+  ),
   λ _. refl,
 )

@@ -18,11 +18,11 @@ loop-number-preserved c =
     elim c.if-reached-places.branch [
       | then-reached-places w ↦ rw w.reached-is
           (more places c.row-kind.result places i inside c.row-kind.ensures.row a c.if-places-eq16.false
-              (omega (arith, a.inside_head, c.if-places-eq16.false)) a.inside
+          (omega (arith, a.inside_head, c.if-places-eq16.false)) a.inside
           (agreement_begins bytes c.row-kind.result places c.row-kind.ensures.fits a) (omega arith) (omega arith))
       | else-reached-places w ↦ rw w.reached-is
           (more c.loop-number.reached c.row-kind.result places i inside c.row-kind.ensures.row a c.if-places-eq16.false i.short i.inside i.begun
-               (omega arith) (omega arith))
+          (omega arith) (omega arith))
     ]
 
 pub returns-clause-fault : goal.returns-clause-fault

@@ -15,20 +15,20 @@ returns-in_err-entry-clause-whole g c =
     let p = err_from_is_err_and c.from_residual-in_err-entry.result c.from_residual-in_err-entry.ensures.1 in
     let entries = map (λ entry. entry.items) c.loop-label.entries.items in
     let few : length entries < label_count c.args.kind g.row.D =
-        omega (arith, c.labels-labels.ensures, length-map c.loop-label.entries.items (λ entry. entry.items), c.loop-label.invariant.count) in
+    omega (arith, c.labels-labels.ensures, length-map c.loop-label.entries.items (λ entry. entry.items), c.loop-label.invariant.count) in
     λ w.
-        rw p.1
-            (p.2
-                 ∙ only_memory c.args.kind g.row.D c.args.bytes.now entries c.loop-label.place c.in_err-entry.field-0.0 c.loop-label.invariant.read
-                       few c.in_err-entry.ensures.fault w)
+    rw p.1
+    (p.2
+    ∙ only_memory c.args.kind g.row.D c.args.bytes.now entries c.loop-label.place c.in_err-entry.field-0.0 c.loop-label.invariant.read
+    few c.in_err-entry.ensures.fault w)
 
 pub loop-label-preserved : goal.loop-label-preserved
 loop-label-preserved g c =
     let entries = map (λ entry. entry.items) c.loop-label.entries.items in
     let long : c.len.result ≡ length c.in_ok-entry.entry.items = omega (arith, c.len.ensures, c.in_ok-entry.entry.ok) in
     let more =
-        read_more c.args.kind g.row.D c.args.bytes.now entries c.loop-label.place c.in_ok-entry.entry.items c.loop-label.invariant.read
-            c.in_ok-entry.ensures.entry in
+    read_more c.args.kind g.row.D c.args.bytes.now entries c.loop-label.place c.in_ok-entry.entry.items c.loop-label.invariant.read
+    c.in_ok-entry.ensures.entry in
     record {
       read = rw (c.in_ok-push.ensures.items, map_push (λ entry. entry.items) c.loop-label.entries.items c.in_ok-entry.entry, long) more;
       count = rw c.in_ok-push.ensures.items (length_push c.loop-label.entries.items c.in_ok-entry.entry ∙ ap (λ n. n + 1) c.loop-label.invariant.count);
@@ -38,16 +38,15 @@ pub returns-then-place-bytes-clause-whole : goal.returns-then-place-bytes-clause
 returns-then-place-bytes-clause-whole g c =
     let entries = map (λ entry. entry.items) c.loop-label.entries.items in
     let all : length entries ≡ label_count c.args.kind g.row.D =
-    omega
-        (
-          arith,
-          c.labels-labels.ensures,
-          length-map c.loop-label.entries.items (λ entry. entry.items),
-          c.loop-label.invariant.count,
-          c.loop-label-test.false,
-          c.loop-label.auto._label-end
-        )
-        in
+    omega (
+      arith,
+      c.labels-labels.ensures,
+      length-map c.loop-label.entries.items (λ entry. entry.items),
+      c.loop-label.invariant.count,
+      c.loop-label-test.false,
+      c.loop-label.auto._label-end,
+    )
+    in
     λ w. absurd (not_whole-extra c.args.kind g.row.D c.args.bytes.now entries c.loop-label.place c.loop-label.invariant.read all c.if-place-bytes.true w)
 
 pub returns-in_err-entry-clause-cause : goal.returns-in_err-entry-clause-cause
@@ -55,23 +54,22 @@ returns-in_err-entry-clause-cause g c =
     let p = err_from_is_err_and c.from_residual-in_err-entry.result c.from_residual-in_err-entry.ensures.1 in
     let entries = map (λ entry. entry.items) c.loop-label.entries.items in
     let few : length entries < label_count c.args.kind g.row.D =
-        omega (arith, c.labels-labels.ensures, length-map c.loop-label.entries.items (λ entry. entry.items), c.loop-label.invariant.count) in
+    omega (arith, c.labels-labels.ensures, length-map c.loop-label.entries.items (λ entry. entry.items), c.loop-label.invariant.count) in
     rw (p.1, p.2)
-        (entry_cause c.args.kind g.row.D c.args.bytes.now entries c.loop-label.place c.in_err-entry.field-0.0 c.loop-label.invariant.read few
-             c.in_err-entry.ensures.fault)
+    (entry_cause c.args.kind g.row.D c.args.bytes.now entries c.loop-label.place c.in_err-entry.field-0.0 c.loop-label.invariant.read few
+    c.in_err-entry.ensures.fault)
 
 pub returns-then-place-bytes-clause-cause : goal.returns-then-place-bytes-clause-cause
 returns-then-place-bytes-clause-cause g c =
     let entries = map (λ entry. entry.items) c.loop-label.entries.items in
     let all : length entries ≡ label_count c.args.kind g.row.D =
-    omega
-        (
-          arith,
-          c.labels-labels.ensures,
-          length-map c.loop-label.entries.items (λ entry. entry.items),
-          c.loop-label.invariant.count,
-          c.loop-label-test.false,
-          c.loop-label.auto._label-end
-        )
-        in
+    omega (
+      arith,
+      c.labels-labels.ensures,
+      length-map c.loop-label.entries.items (λ entry. entry.items),
+      c.loop-label.invariant.count,
+      c.loop-label-test.false,
+      c.loop-label.auto._label-end,
+    )
+    in
     extra_cause c.args.kind g.row.D c.args.bytes.now entries c.loop-label.place c.loop-label.invariant.read all c.if-place-bytes.true

@@ -12,13 +12,13 @@ loop-label-preserved g c =
     let inside : c.loop-label.label < length table.entries = omega (arith, c.labels-label-end.ensures.entries, c.loop-label-test.true) in
     let fits = subst (λ (d : ℕ). HasDimension table.kind d) c.labels-label-end.ensures.dimension c.labels-label-end.ensures.table.fits in
     let more =
-        longer table.kind g.row.D table.entries c.loop-label.label c.loop-label.length c.tuples.result.now fits inside c.loop-label.invariant.is
-            c.tuples.ensures.tuples c.tuples.ensures.sound in
+    longer table.kind g.row.D table.entries c.loop-label.label c.loop-label.length c.tuples.result.now fits inside c.loop-label.invariant.is
+    c.tuples.ensures.tuples c.tuples.ensures.sound in
     record { is = more.is; few = omega (arith, more.few, c.loop-label.invariant.few) }
 
 pub returns : goal.returns
 returns g c =
     c.loop-label.invariant.is
     ∙ ap (λ (l : List ℕ). length l)
-        (written_all c.args.table.now g.row.D c.loop-label.label c.labels-label-end.ensures.dimension
-             (omega (arith, c.labels-label-end.ensures.entries, c.loop-label-test.false)))
+    (written_all c.args.table.now g.row.D c.loop-label.label c.labels-label-end.ensures.dimension
+    (omega (arith, c.labels-label-end.ensures.entries, c.loop-label-test.false)))

@@ -5,8 +5,7 @@ use Rattle.table_file.proofs.writing.length_of.Given as goal
 
 abbrev pub invariant-loop-label : goal.invariant-loop-label
 invariant-loop-label g l =
-    record
-        {
-          is : l.length ≡ length (table_bytes (table_of l.table.kind g.row.D (take l.label l.table.entries)));
-          few : l.length ≤ 16 + l.label * 1073741828
-        }
+    record {
+      is : l.length ≡ length (table_bytes (table_of l.table.kind g.row.D (take l.label l.table.entries)));
+      few : l.length ≤ 16 + l.label * 1073741828;
+    }

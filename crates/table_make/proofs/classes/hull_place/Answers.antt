@@ -15,6 +15,6 @@ pub returns-clause-known : goal.returns-clause-known
 returns-clause-known g c =
     let same : vec_len c.args.hulls.now ≡ length c.args.hulls.now.items = search rules in
     one_more_known g.C.Cell.KIND g.row.D c.args.places.now.items (map (λ h. h.items) c.args.hulls.now.items)
-        (map (λ h. h.items) c.add_hull.new.hulls.items) c.args.label c.len-place.result c.in_ok-facets.facets.items
+    (map (λ h. h.items) c.add_hull.new.hulls.items) c.args.label c.len-place.result c.in_ok-facets.facets.items
     c.requires.inside c.requires.known c.in_ok-facets.ensures (c.len-place.ensures ∙ same ∙ sym (length-map c.args.hulls.now.items (λ h. h.items)))
-        c.in_ok-add_hull.ensures
+    c.in_ok-add_hull.ensures

@@ -31,8 +31,8 @@ patch_moved-requires g c =
               least.is_move,
               λ other carries. subst (λ (m : ℕ). AreFacetNumbers g.row.D (label_points g.C.Cell.KIND g.row.D m) c.deref.result.now)
                   (carried_once g.row.D by (undone g.row.D by) (undone_is g.row.D is by least.is_move) c.loop-label.label c.least_label-class.result.0
-                       other least.carries carries)
-                      class,
+                  other least.carries carries)
+                  class,
             ),
           ),
         ),
@@ -43,7 +43,7 @@ pub loop-label-preserved : goal.loop-label-preserved
 loop-label-preserved g c = record {
   entries =
       one_more_entry g.C.Cell.KIND g.row.D c.loop-label.label (map (λ entry. entry.items) c.loop-label.entries.items)
-          (map (λ entry. entry.items) c.add_entry.new.entries.items) c.in_ok-entry.entry.items
+      (map (λ entry. entry.items) c.add_entry.new.entries.items) c.in_ok-entry.entry.items
       c.loop-label.invariant.entries c.in_ok-entry.ensures c.in_ok-add_entry.ensures;
   room = c.in_ok-place.ensures.room ∙ c.loop-label.invariant.room;
   hulls = c.in_ok-place.ensures.known;

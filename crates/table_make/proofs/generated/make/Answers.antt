@@ -10,11 +10,11 @@ pub unreachable-requires : goal.unreachable-requires
 unreachable-requires g c =
     let labels : 2 ^ g.C.Cell.CORNERS ≡ label_count g.C.Cell.KIND g.row.D = ap (λ (n : ℕ). 2 ^ n) g.met.C.Cell.corners in
     let table =
-        entries_table g.C.Cell.KIND g.row.D (2 ^ g.C.Cell.CORNERS) (map (λ entry. entry.items) c.in_ok-entries.entries.items)
-            g.met.C.Cell.has_dimension labels c.in_ok-entries.ensures in
+    entries_table g.C.Cell.KIND g.row.D (2 ^ g.C.Cell.CORNERS) (map (λ entry. entry.items) c.in_ok-entries.entries.items)
+    g.met.C.Cell.has_dimension labels c.in_ok-entries.ensures in
     false≢true
-        (c.in-Err.ensures.accepted
-             (subst
-                  (λ (k : Kind).
-                       IsTable (record { kind = k; dimension = g.row.D; entries = map (λ entry. entry.items) c.in_ok-entries.entries.items }))
-                  (sym c.KIND.ensures) table))
+    (c.in-Err.ensures.accepted
+    (subst
+    (λ (k : Kind).
+    IsTable (record { kind = k; dimension = g.row.D; entries = map (λ entry. entry.items) c.in_ok-entries.entries.items }))
+    (sym c.KIND.ensures) table))
