@@ -1,10 +1,12 @@
 -- The points of a labelling of a cube by their numbers, and where a move carries them.
-use Rattle.std.specs.Prelude.{◌≡◌, ℕ, ◌+◌, ◌-◌, nat_lt, nat_eq, List, map, length, slice_index, if◌then◌else◌}
+use Rattle.std.specs.Prelude.{◌≡◌, ℕ, ◌+◌, ◌-◌, nat_lt, nat_eq, List, map, filter, length, slice_index, if◌then◌else◌}
 use Rattle.std.specs.List.{position_or_len}
 use Rattle.iso_model.specs.declared.Kind.TheVariants.{Cube}
+use Rattle.iso_model.specs.Orders.{numbers}
+use Rattle.iso_model.specs.Cells.{is_set}
+use Rattle.iso_model.specs.Hulls.{set_number}
 use Rattle.iso_model.specs.Entries.{label_edges, label_corners, label_points}
 use Rattle.iso_model.specs.Moves.{Move, Carries, move_corner, move_edge}
-use Rattle.lists.specs.Orders.{numbers}
 
 -- the place of a number in a list
 abbrev pub place : List ℕ → ℕ → ℕ
@@ -21,8 +23,20 @@ abbrev pub carried_point : ℕ → Move → ℕ → ℕ → ℕ → ℕ
 carried_point d by label other i =
     carried_among d by (label_edges Cube d label) (label_corners Cube d label) (label_edges Cube d other) (label_corners Cube d other) i
 
+-- the same where the move is given by its axes and its flips
+abbrev pub carried_along : ℕ → List ℕ → ℕ → List ℕ → List ℕ → List ℕ → List ℕ → ℕ → ℕ
+carried_along d axes flips es ks fs ls i = carried_among d (record { axes = axes; flips = flips }) es ks fs ls i
+
+-- the numbers of all points, in their order
+abbrev pub AreCarriedAlong : ℕ → List ℕ → ℕ → List ℕ → List ℕ → List ℕ → List ℕ → List ℕ → Type 0
+AreCarriedAlong d axes flips es ks fs ls list = list ≡ map (carried_along d axes flips es ks fs ls) (numbers (length es + length ks))
+
 -- the numbers to which a move carries all points of a labelling, in their order
-pub record AreCarriedNumbers (d : ℕ) (by : Move) (label : ℕ) (list : List ℕ) : Type 0 where
+pub record AreCarriedNumbers (d : ℕ) (axes : List ℕ) (flips label : ℕ) (list : List ℕ) : Type 0 where
   pub other : ℕ
-  pub carries : Carries d by label other
-  pub numbered : list ≡ map (carried_point d by label other) (numbers (length (label_points Cube d label)))
+  pub carries : Carries d (record { axes = axes; flips = flips }) label other
+  pub numbered : list ≡ map (carried_point d (record { axes = axes; flips = flips }) label other) (numbers (length (label_points Cube d label)))
+
+-- a set of points by its number, carried back along a list of the numbers of points: those of which the number is a member
+abbrev pub carried_by : List ℕ → ℕ → ℕ
+carried_by list set = set_number (filter (λ i. is_set set (slice_index list i)) (numbers (length list)))

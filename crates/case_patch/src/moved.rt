@@ -1,13 +1,11 @@
 //! Facets that a move of a cube carries from one labelling to another.
 
-ghost use Rattle.std.specs.Prelude.{◌≡◌, ◌+◌, ◌^◌, ◌<◌, ◌≤◌, All, IfOk, length, map, filter, slice_index};
+ghost use Rattle.std.specs.Prelude.{◌≡◌, ◌+◌, ◌^◌, ◌<◌, ◌≤◌, All, IfOk, length, map};
 ghost use Rattle.iso_model.specs.declared.Kind.{Kind};
 ghost use Rattle.iso_model.specs.Cells.{edge_count};
 ghost use Rattle.iso_model.specs.Moves.{IsMove};
-ghost use Rattle.case_patch.specs.MovedPoints.{place, carried_among, AreCarriedNumbers};
-ghost use Rattle.lists.specs.Orders.{numbers};
-ghost use Rattle.lists.specs.Bits.{is_set, set_number};
-ghost use Rattle.iso_model.specs.Dimensions.{IsDimension};
+ghost use Rattle.cell_lattice.specs.Dimensions.{IsDimension};
+ghost use Rattle.case_patch.specs.MovedPoints.{place, carried_along, AreCarriedAlong, AreCarriedNumbers, carried_by};
 
 use crate::boundary::add_set;
 use crate::points::{add_number, bipolar_edges, positive_corners};
@@ -35,23 +33,23 @@ fn carried_number<const D: usize>(
     by: &Move<D>,
     edges: &[u8],
     corners: &[u8],
-    moved_edges: &[u8],
-    moved_corners: &[u8],
+    to_edges: &[u8],
+    to_corners: &[u8],
     point: usize,
 ) -> u8
     requires dimension { IsDimension D }
     requires is_move { IsMove D (record { axes = by.now.axes; flips = by.now.flips }) }
     requires edges { All (λ e. e < edge_count Kind.Cube D) edges.now }
     requires corners { All (λ k. k < 2 ^ D) corners.now }
-    requires few { length moved_edges.now + length moved_corners.now ≤ 48 }
+    requires few { length to_edges.now + length to_corners.now ≤ 48 }
     requires point { point < length edges.now + length corners.now }
-    ensures { result ≡ carried_among D (record { axes = by.now.axes; flips = by.now.flips }) edges.now corners.now moved_edges.now moved_corners.now point }
+    ensures { result ≡ carried_along D by.now.axes by.now.flips edges.now corners.now to_edges.now to_corners.now point }
 {
     if point < edges.len() {
-        place_of(moved_edges, move_edge(by, edges[point])) as u8
+        place_of(to_edges, move_edge(by, edges[point])) as u8
     } else {
         let corner = move_corner(by, corners[point - edges.len()]);
-        (moved_edges.len() + place_of(moved_corners, corner)) as u8
+        (to_edges.len() + place_of(to_corners, corner)) as u8
     }
 }
 
@@ -61,20 +59,20 @@ fn numbers_among<const D: usize>(
     by: &Move<D>,
     edges: &[u8],
     corners: &[u8],
-    moved_edges: &[u8],
-    moved_corners: &[u8],
+    to_edges: &[u8],
+    to_corners: &[u8],
 ) -> Result<Vec<u8>, Memory>
     requires dimension { IsDimension D }
     requires is_move { IsMove D (record { axes = by.now.axes; flips = by.now.flips }) }
     requires edges { All (λ e. e < edge_count Kind.Cube D) edges.now }
     requires corners { All (λ k. k < 2 ^ D) corners.now }
     requires room { length edges.now + length corners.now ≤ 48 }
-    requires few { length moved_edges.now + length moved_corners.now ≤ 48 }
-    ensures { IfOk result (λ list. list.items ≡ map (carried_among D (record { axes = by.now.axes; flips = by.now.flips }) edges.now corners.now moved_edges.now moved_corners.now) (numbers (length edges.now + length corners.now))) }
+    requires few { length to_edges.now + length to_corners.now ≤ 48 }
+    ensures { IfOk result (λ list. AreCarriedAlong D by.now.axes by.now.flips edges.now corners.now to_edges.now to_corners.now list.items) }
 {
     let mut list = Vec::new(alloc);
     for point in 0..edges.len() + corners.len() {
-        let number = carried_number(by, edges, corners, moved_edges, moved_corners, point);
+        let number = carried_number(by, edges, corners, to_edges, to_corners, point);
         add_number(&mut list, number)?;
     }
     Ok(list)
@@ -89,21 +87,21 @@ pub(crate) fn carried_numbers<C: Cell<D>, const D: usize>(
     requires kind { C.KIND ≡ Kind.Cube }
     requires label { label < 2 ^ C.CORNERS }
     requires is_move { IsMove D (record { axes = by.now.axes; flips = by.now.flips }) }
-    ensures { IfOk result (λ list. AreCarriedNumbers D (record { axes = by.now.axes; flips = by.now.flips }) label list.items) }
+    ensures { IfOk result (λ list. AreCarriedNumbers D by.now.axes by.now.flips label list.items) }
 {
     let edges = bipolar_edges::<C, D>(alloc, label)?;
     let corners = positive_corners::<C, D>(alloc, label)?;
     let other = move_label(by, label);
-    let moved_edges = bipolar_edges::<C, D>(alloc, other)?;
-    let moved_corners = positive_corners::<C, D>(alloc, other)?;
-    numbers_among(alloc, by, &edges, &corners, &moved_edges, &moved_corners)
+    let to_edges = bipolar_edges::<C, D>(alloc, other)?;
+    let to_corners = positive_corners::<C, D>(alloc, other)?;
+    numbers_among(alloc, by, &edges, &corners, &to_edges, &to_corners)
 }
 
 // The set of the points of which the numbers are members of a set.
 fn carried_set(set: u64, list: &[u8]) -> u64
     requires members { All (λ i. i < 64) list.now }
     requires few { length list.now ≤ 48 }
-    ensures { result ≡ set_number (filter (λ i. is_set set (slice_index list.now i)) (numbers (length list.now))) }
+    ensures { result ≡ carried_by list.now set }
 {
     let mut carried = 0;
     for point in 0..list.len() {
@@ -118,7 +116,7 @@ fn carried_set(set: u64, list: &[u8]) -> u64
 pub(crate) fn carried_sets(alloc: Global, sets: &[u64], list: &[u8]) -> Result<Vec<u64>, Memory>
     requires members { All (λ i. i < 64) list.now }
     requires few { length list.now ≤ 48 }
-    ensures { IfOk result (λ carried. carried.items ≡ map (λ set. set_number (filter (λ i. is_set set (slice_index list.now i)) (numbers (length list.now)))) sets.now) }
+    ensures { IfOk result (λ carried. carried.items ≡ map (carried_by list.now) sets.now) }
 {
     let mut carried = Vec::new(alloc);
     for set in sets {

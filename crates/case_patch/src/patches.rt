@@ -3,10 +3,9 @@
 ghost use Rattle.std.specs.Prelude.{◌≡◌, ◌↔◌, ℕ, ◌^◌, ◌<◌, ◌≤◌, ◌++◌, ◌∷◌, [], List, All, Contains, IfOk, IfSome, IfNone, OnOk, length, map};
 ghost use Rattle.iso_model.specs.declared.Kind.{Kind};
 ghost use Rattle.iso_model.specs.Entries.{IsEntryOf, IsPulledTuple, label_points};
-ghost use Rattle.iso_model.specs.Moves.{IsMove, Carries};
-ghost use Rattle.halfspace.specs.Choices.{AreFacetNumbers};
+ghost use Rattle.iso_model.specs.Moves.{IsMove};
 ghost use Rattle.pulling_tri.specs.PointSets.{point_set};
-ghost use Rattle.case_patch.specs.FacetLists.{AreAllFacets};
+ghost use Rattle.case_patch.specs.FacetLists.{AreAllFacets, AreFacetsOfMoved};
 ghost use Rattle.case_patch.specs.Tuples.{Adds, IsNamed, IsTupleOf, IsOffTuple, IsTupleOfSome, IsOrdered};
 ghost use Rattle.iso_model.specs.Dimensions.{IsDimension};
 
@@ -170,7 +169,7 @@ pub fn patch_moved<C: Cell<D>, const D: usize>(
     requires kind { C.KIND ≡ Kind.Cube }
     requires label { label < 2 ^ C.CORNERS }
     requires is_move { IsMove D (record { axes = by.now.axes; flips = by.now.flips }) }
-    requires class { (other : ℕ) → Carries D (record { axes = by.now.axes; flips = by.now.flips }) label other → AreFacetNumbers D (label_points C.KIND D other) class.now }
+    requires class { AreFacetsOfMoved C.KIND D by.now.axes by.now.flips label class.now }
     ensures { IfOk result (λ entry. IsEntryOf C.KIND D label entry.items) }
 {
     let numbers = carried_numbers::<C, D>(alloc, label, by)?;

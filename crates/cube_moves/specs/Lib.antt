@@ -1,3 +1,4 @@
 pub mod Exchanges
 pub mod Joined
 pub mod LeastFlips
+pub mod LabelLists

@@ -1,11 +1,11 @@
 //! Labels moved as whole words.
 
-ghost use Rattle.std.specs.Prelude.{◌≡◌, ℕ, ◌^◌, ◌<◌, [], length, slice_index, slice_index_or};
+ghost use Rattle.std.specs.Prelude.{◌≡◌, ℕ, ◌^◌, ◌<◌, [], length, slice_index_or};
 ghost use Rattle.std.specs.Int.{bit_at};
-ghost use Rattle.iso_model.specs.Moves.{Carries};
+ghost use Rattle.iso_model.specs.Orders.{orders};
+ghost use Rattle.cell_lattice.specs.Dimensions.{IsDimension};
 ghost use Rattle.cube_moves.specs.Exchanges.{IsExchange, partner};
-ghost use Rattle.lists.specs.Orders.{numbers, orders};
-ghost use Rattle.iso_model.specs.Dimensions.{IsDimension};
+ghost use Rattle.cube_moves.specs.LabelLists.{AreByOrders, AreByFlips};
 
 use crate::tables::{COUNTS, FLIPS, ORDERS, STEPS, SWAPS};
 
@@ -33,7 +33,7 @@ fn exchanged<const D: usize>(label: u32, by: &Exchange) -> u32
 pub(crate) fn by_orders<const D: usize>(label: u32) -> [u32; 24]
     requires dimension { IsDimension D }
     requires label { label < 2 ^ (2 ^ D) }
-    ensures { (n : ℕ) → n < length (orders D) → Carries D (record { axes = slice_index_or (orders D) n []; flips = 0 }) label (slice_index result n) }
+    ensures { AreByOrders D label result }
 {
     let mut labels = [label; 24];
     for next in 1..COUNTS[D - 2] {
@@ -47,7 +47,7 @@ pub(crate) fn by_orders<const D: usize>(label: u32) -> [u32; 24]
 pub(crate) fn by_flips<const D: usize>(label: u32) -> [u32; 16]
     requires dimension { IsDimension D }
     requires label { label < 2 ^ (2 ^ D) }
-    ensures { (f : ℕ) → f < 2 ^ D → Carries D (record { axes = numbers D; flips = f }) label (slice_index result f) }
+    ensures { AreByFlips D label result }
 {
     let mut labels = [label; 16];
     for flips in 1..1usize << D {

@@ -1,9 +1,7 @@
 //! The hulls of a cube's labellings, each of the least one of its class.
 
-ghost use Rattle.std.specs.Prelude.{◌≡◌, ◌^◌, ◌<◌, ◌++◌, ◌∷◌, [], All, None, IfOk, OnOk, length, map, slice_index_or};
-ghost use Rattle.iso_model.specs.Entries.{label_points};
-ghost use Rattle.halfspace.specs.Choices.{AreFacetNumbers};
-ghost use Rattle.table_make.specs.ClassHulls.{KnowsHulls};
+ghost use Rattle.std.specs.Prelude.{◌≡◌, ◌^◌, ◌<◌, ◌++◌, ◌∷◌, [], All, None, IfOk, OnOk, length, map};
+ghost use Rattle.table_make.specs.ClassHulls.{KnowsHulls, IsHullAt};
 
 use case_patch::hull;
 use cell_lattice::Cell;
@@ -52,7 +50,7 @@ pub(crate) fn hull_place<C: Cell<D>, const D: usize>(
     ensures known { OnOk result (KnowsHulls C.KIND D places.new.items (map (λ h. h.items) hulls.new.items)) }
     ensures room { length places.new.items ≡ length places.old.items }
     ensures within { IfOk result (λ place. place < length hulls.new.items) }
-    ensures found { IfOk result (λ place. AreFacetNumbers D (label_points C.KIND D label) (slice_index_or (map (λ h. h.items) hulls.new.items) place [])) }
+    ensures found { IfOk result (λ place. IsHullAt C.KIND D label (map (λ h. h.items) hulls.new.items) place) }
 {
     if let Some(place) = places[label as usize] {
         return Ok(place);

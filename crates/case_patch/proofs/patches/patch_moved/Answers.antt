@@ -9,8 +9,8 @@ use Rattle.halfspace.specs.Choices.{AreFacetNumbers}
 use Rattle.cube_moves.proofs.InverseMoves.{undone, undone_is}
 use Rattle.cube_moves.proofs.OrderChecks.{few_axes}
 use Rattle.case_patch.specs.FacetLists.{AreAllFacets}
-use Rattle.case_patch.specs.MovedPoints.{carried_point}
-use Rattle.case_patch.proofs.CarriedFacets.{carried_by, class_facets, numbers_small}
+use Rattle.case_patch.specs.MovedPoints.{carried_point, carried_by}
+use Rattle.case_patch.proofs.CarriedFacets.{class_facets, numbers_small}
 use Rattle.case_patch.proofs.CubeLabels.{cube_label}
 use Rattle.case_patch.proofs.LabelPoints.{few_points, points_length}
 use Rattle.case_patch.proofs.Narrow.{bytes_fit}
