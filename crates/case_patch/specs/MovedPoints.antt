@@ -6,6 +6,7 @@ use Rattle.iso_model.specs.Orders.{numbers}
 use Rattle.iso_model.specs.Cells.{is_set}
 use Rattle.iso_model.specs.Hulls.{set_number}
 use Rattle.iso_model.specs.Entries.{label_edges, label_corners, label_points}
+use Rattle.cube_moves.specs.declared.moves.Move.{Move as CodeMove}
 use Rattle.iso_model.specs.Moves.{Move, Carries, move_corner, move_edge}
 
 -- the place of a number in a list
@@ -23,13 +24,13 @@ abbrev pub carried_point : ℕ → Move → ℕ → ℕ → ℕ → ℕ
 carried_point d by label other i =
     carried_among d by (label_edges Cube d label) (label_corners Cube d label) (label_edges Cube d other) (label_corners Cube d other) i
 
--- the same where the move is given by its axes and its flips
-abbrev pub carried_along : ℕ → List ℕ → ℕ → List ℕ → List ℕ → List ℕ → List ℕ → ℕ → ℕ
-carried_along d axes flips es ks fs ls i = carried_among d (record { axes = axes; flips = flips }) es ks fs ls i
+-- the same for a move as the code has it
+abbrev pub carried_along : (d : ℕ) → CodeMove d → List ℕ → List ℕ → List ℕ → List ℕ → ℕ → ℕ
+carried_along d by es ks fs ls i = carried_among d (record { axes = by.axes; flips = by.flips }) es ks fs ls i
 
 -- the numbers of all points, in their order
-abbrev pub AreCarriedAlong : ℕ → List ℕ → ℕ → List ℕ → List ℕ → List ℕ → List ℕ → List ℕ → Type 0
-AreCarriedAlong d axes flips es ks fs ls list = list ≡ map (carried_along d axes flips es ks fs ls) (numbers (length es + length ks))
+abbrev pub AreCarriedAlong : (d : ℕ) → CodeMove d → List ℕ → List ℕ → List ℕ → List ℕ → List ℕ → Type 0
+AreCarriedAlong d by es ks fs ls list = list ≡ map (carried_along d by es ks fs ls) (numbers (length es + length ks))
 
 -- the numbers to which a move carries all points of a labelling, in their order
 pub record AreCarriedNumbers (d : ℕ) (axes : List ℕ) (flips label : ℕ) (list : List ℕ) : Type 0 where
