@@ -1,6 +1,6 @@
 -- The bits of a label whose corners are exchanged in pairs.
-use Rattle.std.specs.Prelude.{◌≡◌, ℕ, zero, suc, ◌+◌, ◌-◌, ◌*◌, ◌/◌, ◌%◌, ◌^◌, ◌<◌, ◌≤◌, min, max, Bool, true, false, not, ◌&&◌, ◌||◌, nat_lt, nat_le}
-use Rattle.std.specs.Prelude.{cond, bit_and, bit_or}
+use Rattle.std.specs.Prelude.{◌≡◌, ℕ, zero, suc, ◌+◌, ◌-◌, ◌*◌, ◌/◌, ◌%◌, ◌^◌, ◌<◌, ◌≤◌, min, max, Bool, true, false, not, ◌&&◌, ◌||◌, nat_lt, nat_le, cond}
+use Rattle.std.specs.Prelude.{bit_and, bit_or}
 use Rattle.std.specs.Int.{bit_at}
 use Rattle.std.proofs.Common.{refl, sym, ap, ◌∙◌, subst, arith}
 use Rattle.std.proofs.lemmas.Bool.{eqb-true, eqb-false, and_parts}
@@ -8,10 +8,9 @@ use Rattle.std.proofs.lemmas.Bool.Decides.{nat_tests}
 use Rattle.std.proofs.lemmas.Nat.{shr-shr, shr_split, pow_pos, and_le_l}
 use Rattle.std.proofs.lemmas.Nat.Bits.{bit_at_cat_low, bit_at_cat_high, bit_at-lt, bit_at-zero, bit_at_above, bit_at_and, bit_at_or, same_from_bits}
 use Rattle.std.proofs.Math.Nat.{mod-eq_of_lt, mod-lt, mul-le-mul, pow-le-pow_right}
+use Rattle.iso_model.specs.Cells.{is_set}
 use Rattle.cube_moves.specs.declared.words.Exchange.{Exchange}
 use Rattle.cube_moves.specs.Exchanges.{IsExchange, partner, is_free}
-use Rattle.lists.specs.Bits.{is_set}
-use Rattle.lists.proofs.Bits.{bit-set, bit-unset}
 
 -- ---- bits of shifted numbers
 
@@ -56,8 +55,8 @@ whole w x small near =
 raised-bit : (w : ℕ) (x : Exchange) (c : ℕ) → bit_at (bit_and w x.lower * 2 ^ x.shift) c ≡ raised w x c
 raised-bit w x c = by_place (nat_lt c x.shift) refl
   where
-    by_place : (t : Bool) → nat_lt c x.shift ≡ t
-        → bit_at (bit_and w x.lower * 2 ^ x.shift) c ≡ cond t 0 (min (bit_at w (c - x.shift)) (bit_at x.lower (c - x.shift)))
+    by_place : (t : Bool) → nat_lt c x.shift ≡ t → bit_at (bit_and w x.lower * 2 ^ x.shift) c
+        ≡ cond t 0 (min (bit_at w (c - x.shift)) (bit_at x.lower (c - x.shift)))
     by_place true e = let h : c < x.shift = grind (arith, nat_tests) in shl-bit_low (bit_and w x.lower) x.shift c h
     by_place false e = let h : x.shift ≤ c = grind (arith, nat_tests) in shl-bit_high (bit_and w x.lower) x.shift c h ∙ bit_at_and w x.lower (c - x.shift)
 
@@ -76,6 +75,17 @@ word-bit w x c small near =
 
 -- ---- sets and their bits
 
+set-bit : (n c : ℕ) → is_set n c ≡ true → bit_at n c ≡ 1
+set-bit n c e = eqb-true (bit_at n c) 1 e
+
+unset-bit : (n c : ℕ) → is_set n c ≡ false → bit_at n c ≡ 0
+unset-bit n c e = let l = bit_at-lt n c in let f = eqb-false (bit_at n c) 1 e in zero_of (bit_at n c) l f
+  where
+    zero_of : (b : ℕ) → b < 2 → (b ≡ 1 → ⊥) → b ≡ 0
+    zero_of zero l f = refl
+    zero_of (suc zero) l f = absurd (f refl)
+    zero_of (suc (suc b)) l f = absurd (omega arith)
+
 free-raised : (w : ℕ) (x : Exchange) (c : ℕ) → is_free x c ≡ true → raised w x c ≡ 0
 free-raised w x c free = by_place (nat_lt c x.shift) (is_set x.lower (c - x.shift)) refl free
   where
@@ -83,11 +93,11 @@ free-raised w x c free = by_place (nat_lt c x.shift) (is_set x.lower (c - x.shif
         → cond t 0 (min (bit_at w (c - x.shift)) (bit_at x.lower (c - x.shift))) ≡ 0
     by_place true u e f = refl
     by_place false true e f = absurd (cc)
-    by_place false false e f = let z = bit-unset x.lower (c - x.shift) e in omega arith
+    by_place false false e f = let z = unset-bit x.lower (c - x.shift) e in omega arith
 
 taken-raised : (w : ℕ) (x : Exchange) (c : ℕ) → x.shift ≤ c → is_set x.lower (c - x.shift) ≡ true → raised w x c ≡ bit_at w (c - x.shift)
 taken-raised w x c up set =
-    let o = bit-set x.lower (c - x.shift) set in
+    let o = set-bit x.lower (c - x.shift) set in
     let l = bit_at-lt w (c - x.shift) in
     let p : nat_lt c x.shift ≡ false = grind (arith, nat_tests) in
     ap (λ (t : Bool). cond t 0 (min (bit_at w (c - x.shift)) (bit_at x.lower (c - x.shift)))) p ∙ omega arith
@@ -105,22 +115,22 @@ exchanged_signs d w x small is c below =
     by_set true true e f g = absurd (cc)
     by_set true false e f g =
         let y = free-raised w x c g in
-        let k = bit-set x.kept c e in
-        let l = bit-unset x.lower c f in
+        let k = set-bit x.kept c e in
+        let l = unset-bit x.lower c f in
         let s = bit_at-lt w c in
         omega arith
     by_set false true e f g =
         let y = free-raised w x c (and_parts (nat_lt (c + x.shift) (2 ^ d)) (is_free x c) g).1 in
-        let k = bit-unset x.kept c e in
-        let l = bit-set x.lower c f in
+        let k = unset-bit x.kept c e in
+        let l = set-bit x.lower c f in
         let s = bit_at-lt w (c + x.shift) in
         omega arith
     by_set false false e f g =
         let p = and_parts (nat_le x.shift c) (is_set x.lower (c - x.shift)) g in
         let up : x.shift ≤ c = let t = p.0 in grind (arith, nat_tests) in
         let y = taken-raised w x c up p.1 in
-        let k = bit-unset x.kept c e in
-        let l = bit-unset x.lower c f in
+        let k = unset-bit x.kept c e in
+        let l = unset-bit x.lower c f in
         omega arith
 
 -- and no bits stand above the corners
@@ -145,7 +155,7 @@ exchanged_below d w x small in_label is =
             let p = (and_parts (nat_lt (e + x.shift) (2 ^ d)) (is_free x e) g).0 in
             let q : e + x.shift < 2 ^ d = grind (arith, nat_tests) in
             absurd (omega arith)
-        by_set k false f g = bit-unset x.lower e f
+        by_set k false f g = unset-bit x.lower e f
 
     raised_none : (c : ℕ) → 2 ^ d ≤ c → raised w x c ≡ 0
     raised_none c above = by_place (nat_lt c x.shift) (nat_lt (c - x.shift) (2 ^ d)) refl refl

@@ -4,17 +4,20 @@ use Rattle.std.specs.List.{list_all}
 use Rattle.std.specs.Int.{bit_at, w64, trailing_zeros}
 use Rattle.std.proofs.Common.{refl, sym, ap, ◌∙◌, arith}
 use Rattle.std.proofs.lemmas.Bool.{and_parts, ltb-true, leb-true, eqb-true}
+use Rattle.iso_model.specs.Orders.{numbers, orders}
+use Rattle.iso_model.specs.Cells.{is_set}
 use Rattle.iso_model.specs.Moves.{Move, Carries, move_corner}
+use Rattle.cell_lattice.specs.Dimensions.{IsDimension, in_each_dimension}
 use Rattle.cube_moves.specs.declared.words.Exchange.{Exchange}
 use Rattle.cube_moves.specs.declared.tables.TheConstants.{FLIPS, SWAPS, STEPS, COUNTS}
 use Rattle.cube_moves.specs.Exchanges.{IsExchange, partner, fits_at}
 use Rattle.cube_moves.proofs.MovedBits.{order_alone, flips_alone, corner-below}
 use Rattle.cube_moves.proofs.OrderChecks.{each_below}
-use Rattle.lists.specs.Orders.{numbers, orders}
-use Rattle.lists.specs.Bits.{is_set}
-use Rattle.iso_model.specs.Dimensions.{IsDimension, in_each_dimension}
 
 -- ---- exchanges
+
+no_exchange : Exchange
+no_exchange = record { kept = 0; lower = 0; shift = 0 }
 
 abbrev pub all_fit : ℕ → Exchange → Bool
 all_fit d x = list_all (fits_at d x) (numbers (2 ^ d)) && nat_le x.shift 16
@@ -154,10 +157,8 @@ pub flips_none : (d : ℕ) → IsDimension d → (label : ℕ) → label < 2 ^ (
 unfolding stays
 flips_none d is label below = (
   below,
-  λ k h.
-      ap (is_set label)
-      (eqb-true _ _
-      (each_below (λ k. move_corner d (flips_alone d 0) k == k) (2 ^ d) (in_each_dimension (λ n. stays n ≡ true) refl refl refl d is) k h)),
+  λ k h. ap (is_set label)
+      (eqb-true _ _ (each_below (λ k. move_corner d (flips_alone d 0) k == k) (2 ^ d) (in_each_dimension (λ n. stays n ≡ true) refl refl refl d is) k h)),
 )
 
 pub first_order : (d : ℕ) → IsDimension d → order_of d 0 ≡ numbers d

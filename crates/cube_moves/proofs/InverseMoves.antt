@@ -1,6 +1,6 @@
 -- Each move has an inverse: what it carries is carried back.
-use Rattle.std.specs.Prelude.{◌≡◌, ◌⊎◌, ℕ, ◌+◌, ◌*◌, ◌%◌, ◌^◌, ◌<◌, ◌≤◌, min, max, Bool, true, false, ◌==◌, ◌&&◌, nat_lt, nat_eq, List, [], map}
-use Rattle.std.specs.Prelude.{length, slice_index, slice_index_or, Contains}
+use Rattle.std.specs.Prelude.{◌≡◌, ◌⊎◌, ℕ, ◌+◌, ◌*◌, ◌%◌, ◌^◌, ◌<◌, ◌≤◌, min, max, Bool, true, false, ◌==◌, ◌&&◌, nat_lt, nat_eq, List, [], map, length}
+use Rattle.std.specs.Prelude.{slice_index, slice_index_or, Contains}
 use Rattle.std.specs.List.{list_all, position_or_len}
 use Rattle.std.specs.Int.{bit_at}
 use Rattle.std.proofs.Common.{refl, sym, ap, ◌∙◌, subst, arith, inl, inr}
@@ -8,19 +8,18 @@ use Rattle.std.proofs.lemmas.Bool.{eqb-true, ltb-true, and_parts, cases_lt}
 use Rattle.std.proofs.lemmas.Nat.Bits.{bit_at-lt, same_from_bits_below, bit_at-zero}
 use Rattle.std.proofs.lemmas.Slice.Eq.{bytes_eq-Decides}
 use Rattle.iso_model.specs.declared.Kind.TheVariants.{Cube}
-use Rattle.iso_model.specs.Cells.{HasDimension, edge_count, edge_ends, edge_between}
+use Rattle.iso_model.specs.Orders.{numbers, orders, same_list}
+use Rattle.iso_model.specs.Cells.{HasDimension, is_set, edge_count, edge_ends, edge_between}
 use Rattle.iso_model.specs.Bipolar.{differ, is_bipolar_in}
 use Rattle.iso_model.specs.Moves.{Move, IsMove, Carries, move_corner, move_edge}
 use Rattle.cell_lattice.specs.CellLemmas.{found_by_ends}
+use Rattle.cell_lattice.specs.Dimensions.{IsDimension}
 use Rattle.cube_moves.specs.Joined.{IsJoined}
 use Rattle.cube_moves.proofs.MovedBits.{order_alone, flips_alone, with_flips, corner-below, corner-bit}
 use Rattle.cube_moves.proofs.OrderChecks.{back, each_below, each_order, few_axes, axis-below}
 use Rattle.cube_moves.proofs.LeastLabels.{order_there, same_bit}
 use Rattle.cube_moves.proofs.ExchangeChecks.{order_of}
 use Rattle.cube_moves.proofs.MovedEdges.{edge_step, moved_joined}
-use Rattle.lists.specs.Orders.{numbers, orders, same_list}
-use Rattle.lists.specs.Bits.{is_set}
-use Rattle.iso_model.specs.Dimensions.{IsDimension}
 
 -- ---- orders backwards
 
@@ -62,8 +61,7 @@ all_have_back = each_order has_back refl refl refl
 
 pub back_there : (d : ℕ) → IsDimension d → (axes : List ℕ) → Contains (orders d) axes → Contains (orders d) (back d axes)
 back_there d is axes o =
-    let p =
-    and_parts (nat_lt (number_back d axes) (length (orders d))) (same_list (back d axes) (order_of d (number_back d axes)))
+    let p = and_parts (nat_lt (number_back d axes) (length (orders d))) (same_list (back d axes) (order_of d (number_back d axes)))
     (all_have_back d is axes o) in
     let e = (bytes_eq-Decides (back d axes) (order_of d (number_back d axes))).0 p.1 in
     subst (Contains (orders d)) (sym e) (order_there d (number_back d axes) (ltb-true _ _ p.0))
@@ -186,9 +184,7 @@ edge_there d is by un i e h =
     let lows : min a b ≡ a = let o = s.ordered in omega arith in
     let highs : max a b ≡ b = let o = s.ordered in omega arith in
     let both = edge_moved_ends d is by i.is_move e h
-    (λ x y.
-    edge_between Cube d (min (move_corner d un x) (move_corner d un y)) (max (move_corner d un x) (move_corner d un y))
-    ≡ edge_between Cube d a b)
+    (λ x y. edge_between Cube d (min (move_corner d un x) (move_corner d un y)) (max (move_corner d un x) (move_corner d un y)) ≡ edge_between Cube d a b)
     (λ x y q. ap (λ (k : ℕ). edge_between Cube d k (max (move_corner d un y) (move_corner d un x))) (min_turned (move_corner d un y) (move_corner d un x))
     ∙ ap (edge_between Cube d (min (move_corner d un x) (move_corner d un y))) (max_turned (move_corner d un y) (move_corner d un x)) ∙ q)
     (let u : move_corner d un (move_corner d by a) ≡ a = i.there a (let o = s.ordered in let c = s.corners in omega arith) in

@@ -6,15 +6,15 @@ use Rattle.std.proofs.Common.{refl, sym, ap, ◌∙◌, subst, arith, inl, inr}
 use Rattle.std.proofs.lemmas.Bool.{eqb-true, ltb-true, cases_order}
 use Rattle.std.proofs.lemmas.Bool.Decides.{nat_tests}
 use Rattle.std.proofs.lemmas.Nat.Bits.{bit_at-lt, same_from_bits_below}
+use Rattle.iso_model.specs.Orders.{numbers, orders, comes_before}
+use Rattle.iso_model.specs.Cells.{is_set}
 use Rattle.iso_model.specs.Moves.{Move, IsMove, Carries, IsEarlier, IsLeastLabel, move_corner}
+use Rattle.iso_model.proofs.Deciding.{any_default, Contains-at}
+use Rattle.cell_lattice.specs.Dimensions.{IsDimension, in_each_dimension}
 use Rattle.cube_moves.specs.LeastFlips.{IsLeastFlip}
 use Rattle.cube_moves.proofs.MovedBits.{order_alone, flips_alone, with_flips, corner-below, order_then_flips, flips_undone}
 use Rattle.cube_moves.proofs.OrderChecks.{back, goes-back, each_below}
 use Rattle.cube_moves.proofs.ExchangeChecks.{order_of}
-use Rattle.lists.specs.Orders.{numbers, orders, comes_before}
-use Rattle.lists.specs.Bits.{is_set}
-use Rattle.lists.proofs.Contained.{any_default, Contains-at}
-use Rattle.iso_model.specs.Dimensions.{IsDimension, in_each_dimension}
 
 -- ---- a label is known by the signs of the moved corners
 
@@ -64,23 +64,21 @@ order_number d axes c = (c.0, c.1, any_default (orders d) c.0 [] axes c.1 ∙ c.
 
 -- an order that comes before another, or is the same, has no greater number
 ascend : ℕ → Bool
-ascend d =
-    list_all (λ i. list_all (λ j. nat_lt i j || not (comes_before (order_of d i) (order_of d j))) (numbers (length (orders d))))
+ascend d = list_all (λ i. list_all (λ j. nat_lt i j || not (comes_before (order_of d i) (order_of d j))) (numbers (length (orders d))))
     (numbers (length (orders d)))
 
 all_ascend : (d : ℕ) → IsDimension d → ascend d ≡ true
 unfolding ascend
 all_ascend = in_each_dimension (λ d. ascend d ≡ true) refl refl refl
 
-pub earlier_number : (d : ℕ) → IsDimension d → (i j : ℕ) → i < length (orders d) → j < length (orders d)
-    → comes_before (order_of d i) (order_of d j) ≡ true → i < j
+pub earlier_number : (d : ℕ) → IsDimension d → (i j : ℕ) → i < length (orders d) → j < length (orders d) → comes_before (order_of d i) (order_of d j) ≡ true
+    → i < j
 unfolding ascend
 earlier_number d is i j in_i in_j e =
     let p : (nat_lt i j || not (comes_before (order_of d i) (order_of d j))) ≡ true =
     each_below (λ j. nat_lt i j || not (comes_before (order_of d i) (order_of d j))) (length (orders d))
-    (each_below (λ i. list_all (λ j. nat_lt i j || not (comes_before (order_of d i) (order_of d j))) (numbers (length (orders d))))
-    (length (orders d)) (all_ascend d is) i in_i)
-    j in_j in
+    (each_below (λ i. list_all (λ j. nat_lt i j || not (comes_before (order_of d i) (order_of d j))) (numbers (length (orders d)))) (length (orders d))
+    (all_ascend d is) i in_i) j in_j in
     by_test (nat_lt i j) (comes_before (order_of d i) (order_of d j)) refl e p
   where
     by_test : (a b : Bool) → nat_lt i j ≡ a → b ≡ true → (a || not b) ≡ true → i < j
@@ -89,11 +87,8 @@ earlier_number d is i j in_i in_j e =
     by_test false false s t u = absurd (cc)
 
 differ : ℕ → Bool
-differ d =
-    list_all
-    (λ i.
-    list_all (λ j. (i == j) || (comes_before (order_of d i) (order_of d j) || comes_before (order_of d j) (order_of d i)))
-    (numbers (length (orders d))))
+differ d = list_all
+    (λ i. list_all (λ j. (i == j) || (comes_before (order_of d i) (order_of d j) || comes_before (order_of d j) (order_of d i))) (numbers (length (orders d))))
     (numbers (length (orders d)))
 
 all_differ : (d : ℕ) → IsDimension d → differ d ≡ true
@@ -106,11 +101,8 @@ own_number d is i j in_i in_j e =
     let p : ((i == j) || (comes_before (order_of d i) (order_of d j) || comes_before (order_of d j) (order_of d i))) ≡ true =
     each_below (λ j. (i == j) || (comes_before (order_of d i) (order_of d j) || comes_before (order_of d j) (order_of d i))) (length (orders d))
     (each_below
-    (λ i.
-    list_all (λ j. (i == j) || (comes_before (order_of d i) (order_of d j) || comes_before (order_of d j) (order_of d i)))
-    (numbers (length (orders d))))
-    (length (orders d)) (all_differ d is) i in_i)
-    j in_j in
+    (λ i. list_all (λ j. (i == j) || (comes_before (order_of d i) (order_of d j) || comes_before (order_of d j) (order_of d i)))
+    (numbers (length (orders d)))) (length (orders d)) (all_differ d is) i in_i) j in_j in
     by_test (i == j) (comes_before (order_of d i) (order_of d j)) (comes_before (order_of d j) (order_of d i)) refl refl refl p
   where
     by_test : (a b c : Bool) → (i == j) ≡ a → comes_before (order_of d i) (order_of d j) ≡ b → comes_before (order_of d j) (order_of d i) ≡ c
@@ -118,14 +110,14 @@ own_number d is i j in_i in_j e =
     by_test true b c s t u v = eqb-true i j s
     by_test false true c s t u v =
         let l = earlier_number d is i j in_i in_j t in
-        let same : comes_before (order_of d j) (order_of d i) ≡ true =
-        ap (λ (xs : List ℕ). comes_before xs (order_of d i)) (sym e) ∙ ap (comes_before (order_of d i)) e ∙ t in
+        let same : comes_before (order_of d j) (order_of d i) ≡ true = ap (λ (xs : List ℕ). comes_before xs (order_of d i)) (sym e)
+        ∙ ap (comes_before (order_of d i)) e ∙ t in
         let m = earlier_number d is j i in_j in_i same in
         absurd (omega arith)
     by_test false false true s t u v =
         let l = earlier_number d is j i in_j in_i u in
-        let same : comes_before (order_of d i) (order_of d j) ≡ true =
-        ap (λ (xs : List ℕ). comes_before xs (order_of d j)) e ∙ ap (comes_before (order_of d j)) (sym e) ∙ u in
+        let same : comes_before (order_of d i) (order_of d j) ≡ true = ap (λ (xs : List ℕ). comes_before xs (order_of d j)) e
+        ∙ ap (comes_before (order_of d j)) (sym e) ∙ u in
         let m = earlier_number d is i j in_i in_j same in
         absurd (omega arith)
     by_test false false false s t u v = absurd (cc)
@@ -152,8 +144,7 @@ least_at_first d is some label w least flips c l = record {
   is_least = λ i f m below in_f e.
       let z : i ≡ 0 = omega arith in
       l.is_least f m in_f
-      (carries_rest d is (order_of d 0) (order_there d 0 some) f label w m c
-      (subst (λ (j : ℕ). Carries d (with_flips (order_of d j) f) label m) z e));
+      (carries_rest d is (order_of d 0) (order_there d 0 some) f label w m c (subst (λ (j : ℕ). Carries d (with_flips (order_of d j) f) label m) z e));
   is_first = λ i f m below in_f e. absurd (omega arith);
   is_first_here = λ f m below e. l.is_first f m below (carries_rest d is (order_of d 0) (order_there d 0 some) f label w m c e);
 }
@@ -174,8 +165,7 @@ least_goes_on d is n in_n label w least order flips other by c l so_far less = r
     by_place : (i f m : ℕ) → f < 2 ^ d → Carries d (with_flips (order_of d i) f) label m → (i ≡ n) ⊎ ((i < n) ⊎ (n < i)) → i < n + 1 → other ≤ m
     by_place i f m in_f e (inl z) below =
         l.is_least f m in_f
-        (carries_rest d is (order_of d n) (order_there d n in_n) f label w m c
-        (subst (λ (j : ℕ). Carries d (with_flips (order_of d j) f) label m) z e))
+        (carries_rest d is (order_of d n) (order_there d n in_n) f label w m c (subst (λ (j : ℕ). Carries d (with_flips (order_of d j) f) label m) z e))
     by_place i f m in_f e (inr (inl h)) below = let k = so_far.is_least i f m h in_f e in omega arith
     by_place i f m in_f e (inr (inr h)) below = absurd (omega arith)
 
@@ -194,10 +184,8 @@ least_stays d is n in_n label w least order flips other by c l so_far more = rec
   where
     by_place : (i f m : ℕ) → f < 2 ^ d → Carries d (with_flips (order_of d i) f) label m → (i ≡ n) ⊎ ((i < n) ⊎ (n < i)) → i < n + 1 → least ≤ m
     by_place i f m in_f e (inl z) below =
-        let h =
-        l.is_least f m in_f
-        (carries_rest d is (order_of d n) (order_there d n in_n) f label w m c
-        (subst (λ (j : ℕ). Carries d (with_flips (order_of d j) f) label m) z e)) in
+        let h = l.is_least f m in_f
+        (carries_rest d is (order_of d n) (order_there d n in_n) f label w m c (subst (λ (j : ℕ). Carries d (with_flips (order_of d j) f) label m) z e)) in
         omega arith
     by_place i f m in_f e (inr (inl h)) below = so_far.is_least i f m h in_f e
     by_place i f m in_f e (inr (inr h)) below = absurd (omega arith)

@@ -7,14 +7,19 @@ use Rattle.std.proofs.lemmas.Bool.Decides.{nat_tests}
 use Rattle.std.proofs.lemmas.List.FromFn.{get_or-range_with_len}
 use Rattle.std.proofs.lemmas.List.Sums.{sum_by_push}
 use Rattle.std.proofs.lemmas.Nat.Bits.{bit_at_cat_low, bit_at_cat_high, bit_at-lt, bit_at-zero, same_from_bits_below}
+use Rattle.iso_model.specs.Orders.{numbers}
 use Rattle.iso_model.specs.Moves.{Move, move_corner}
-use Rattle.lists.specs.Orders.{numbers}
-use Rattle.lists.proofs.Powers.{range_push}
 
 -- ---- a number by its digits
 
+range_more : (a n : ℕ) → range_with_len a (suc n) ≡ range_with_len a n ++ ((a + n) ∷ [])
+range_more a zero = let e : a ≡ a + 0 = omega arith in ap (λ (k : ℕ). k ∷ []) e
+range_more a (suc n) =
+    let e : a + 1 + n ≡ a + suc n = omega arith in
+    ap (λ (xs : List ℕ). a ∷ xs) (range_more (a + 1) n ∙ ap (λ (k : ℕ). range_with_len (a + 1) n ++ (k ∷ [])) e)
+
 pub numbers_more : (n : ℕ) → numbers (suc n) ≡ numbers n ++ (n ∷ [])
-numbers_more n = let z : 0 + n ≡ n = omega arith in range_push 0 n ∙ ap (λ (k : ℕ). numbers n ++ (k ∷ [])) z
+numbers_more n = let z : 0 + n ≡ n = omega arith in range_more 0 n ∙ ap (λ (k : ℕ). numbers n ++ (k ∷ [])) z
 
 -- the number with these digits
 abbrev pub digits : (ℕ → ℕ) → ℕ → ℕ
@@ -87,8 +92,8 @@ flip-bit d f c i h =
     let e : slice_index (numbers d) i ≡ i = get_or-range_with_len 0 d i 0 h ∙ omega arith in
     corner-bit d (flips_alone d f) c i h ∙ ap (λ (a : ℕ). (bit_at c a + bit_at f i) % 2) e
 
-pub order_then_flips : (d : ℕ) (axes : List ℕ) (f k : ℕ)
-    → move_corner d (flips_alone d f) (move_corner d (order_alone axes) k) ≡ move_corner d (with_flips axes f) k
+pub order_then_flips : (d : ℕ) (axes : List ℕ) (f k : ℕ) → move_corner d (flips_alone d f) (move_corner d (order_alone axes) k)
+    ≡ move_corner d (with_flips axes f) k
 order_then_flips d axes f k =
     same_from_bits_below d _ _ (corner-below d (flips_alone d f) (move_corner d (order_alone axes) k)) (corner-below d (with_flips axes f) k)
     (λ i h. flip-bit d f (move_corner d (order_alone axes) k) i h ∙ ap (λ (b : ℕ). (b + bit_at f i) % 2) (corner-bit d (order_alone axes) k i h) ∙ same i h)
@@ -106,8 +111,7 @@ order_then_flips d axes f k =
 pub flips_undone : (d f c : ℕ) → c < 2 ^ d → move_corner d (flips_alone d f) (move_corner d (flips_alone d f) c) ≡ c
 flips_undone d f c h =
     same_from_bits_below d _ _ (corner-below d (flips_alone d f) (move_corner d (flips_alone d f) c)) h
-    (λ i k.
-    flip-bit d f (move_corner d (flips_alone d f) c) i k ∙ ap (λ (b : ℕ). (b + bit_at f i) % 2) (flip-bit d f c i k)
+    (λ i k. flip-bit d f (move_corner d (flips_alone d f) c) i k ∙ ap (λ (b : ℕ). (b + bit_at f i) % 2) (flip-bit d f c i k)
     ∙ twice (bit_at c i) (bit_at f i) (bit_at-lt c i))
   where
     twice : (a b : ℕ) → a < 2 → ((a + b) % 2 + b) % 2 ≡ a

@@ -5,13 +5,13 @@ use Rattle.std.specs.Int.{bit_at}
 use Rattle.std.proofs.Common.{refl, sym, ap, ◌∙◌, subst, arith, inl, inr}
 use Rattle.std.proofs.lemmas.Bool.{eqb-true, eq-eqb, ltb-true, and_parts, cases_lt}
 use Rattle.iso_model.specs.declared.Kind.TheVariants.{Cube}
+use Rattle.iso_model.specs.Orders.{numbers, orders}
 use Rattle.iso_model.specs.Cells.{edge_count, edge_ends, edge_between}
 use Rattle.iso_model.specs.Moves.{Move, IsMove, move_corner}
+use Rattle.cell_lattice.specs.Dimensions.{IsDimension, in_each_dimension}
 use Rattle.cube_moves.specs.Joined.{IsJoined}
 use Rattle.cube_moves.proofs.MovedBits.{order_alone, flips_alone, with_flips, corner-below, order_then_flips}
 use Rattle.cube_moves.proofs.OrderChecks.{each_below, each_order}
-use Rattle.lists.specs.Orders.{numbers, orders}
-use Rattle.iso_model.specs.Dimensions.{IsDimension, in_each_dimension}
 
 -- two corners that differ in one axis
 pub record IsStep (d i x y : ℕ) : Type 0 where
@@ -50,8 +50,8 @@ pair_passes d p all x i in_x in_i low =
 
 -- ---- a map of the corners that keeps such pairs
 
-step_through : (d : ℕ) (go axis : ℕ → ℕ) → pairs_pass d (λ x i. is_step d (axis i) (go x) (go (x + 2 ^ i))) ≡ true → (i x y : ℕ) → x < 2 ^ d
-    → y < 2 ^ d → IsStep d i x y → IsStep d (axis i) (go x) (go y)
+step_through : (d : ℕ) (go axis : ℕ → ℕ) → pairs_pass d (λ x i. is_step d (axis i) (go x) (go (x + 2 ^ i))) ≡ true → (i x y : ℕ) → x < 2 ^ d → y < 2 ^ d
+    → IsStep d i x y → IsStep d (axis i) (go x) (go y)
 step_through d go axis all i x y in_x in_y s = by_place (cases_lt x y)
   where
     turned : (j a b : ℕ) → IsStep d j a b → IsStep d j b a
@@ -100,8 +100,8 @@ moved_step : (d : ℕ) → IsDimension d → (axes : List ℕ) (f : ℕ) → Con
 unfolding order_steps flips_step
 moved_step d is axes f o in_f i x y in_x in_y s =
     let a = step_through d (move_corner d (order_alone axes)) (place_of axes) (all_orders_step d is axes o) i x y in_x in_y s in
-    let b = step_through d (move_corner d (flips_alone d f)) (λ j. j) (all_flips_step d is f in_f) (place_of axes i)
-    (move_corner d (order_alone axes) x) (move_corner d (order_alone axes) y)
+    let b = step_through d (move_corner d (flips_alone d f)) (λ j. j) (all_flips_step d is f in_f) (place_of axes i) (move_corner d (order_alone axes) x)
+    (move_corner d (order_alone axes) y)
     (corner-below d (order_alone axes) x) (corner-below d (order_alone axes) y) a in
     subst (λ (k : ℕ). IsStep d (place_of axes i) k (move_corner d (with_flips axes f) y)) (order_then_flips d axes f x)
     (subst (λ (k : ℕ). IsStep d (place_of axes i) (move_corner d (flips_alone d f) (move_corner d (order_alone axes) x)) k) (order_then_flips d axes f y) b)
@@ -113,8 +113,7 @@ abbrev axis_of : ℕ → ℕ → ℕ
 axis_of d e = position_or_len (λ i. (edge_ends Cube d e).1 == (edge_ends Cube d e).0 + 2 ^ i) (numbers d)
 
 abbrev is_edge_step : ℕ → ℕ → Bool
-is_edge_step d e =
-    is_step d (axis_of d e) (edge_ends Cube d e).0 (edge_ends Cube d e).1
+is_edge_step d e = is_step d (axis_of d e) (edge_ends Cube d e).0 (edge_ends Cube d e).1
     && (nat_lt (edge_ends Cube d e).0 (edge_ends Cube d e).1 && nat_lt (edge_ends Cube d e).1 (2 ^ d))
 
 edges_step : (d : ℕ) → IsDimension d → (e : ℕ) → e < edge_count Cube d → is_edge_step d e ≡ true
@@ -129,8 +128,7 @@ pub record EdgeStep (d e : ℕ) : Type 0 where
 
 pub edge_step : (d : ℕ) → IsDimension d → (e : ℕ) → e < edge_count Cube d → EdgeStep d e
 edge_step d is e h =
-    let p =
-    and_parts (is_step d (axis_of d e) (edge_ends Cube d e).0 (edge_ends Cube d e).1)
+    let p = and_parts (is_step d (axis_of d e) (edge_ends Cube d e).0 (edge_ends Cube d e).1)
     (nat_lt (edge_ends Cube d e).0 (edge_ends Cube d e).1 && nat_lt (edge_ends Cube d e).1 (2 ^ d)) (edges_step d is e h) in
     let q = and_parts (nat_lt (edge_ends Cube d e).0 (edge_ends Cube d e).1) (nat_lt (edge_ends Cube d e).1 (2 ^ d)) p.1 in
     record {
@@ -156,8 +154,7 @@ pub joined_by_edge : (d : ℕ) → IsDimension d → (i x y : ℕ) → x < 2 ^ d
 unfolding pairs_joined
 joined_by_edge d is i x y in_x in_y s =
     let lo : ℕ = min x y in
-    let p =
-    and_parts (nat_lt (edge_between Cube d lo (lo + 2 ^ i)) (edge_count Cube d)) _
+    let p = and_parts (nat_lt (edge_between Cube d lo (lo + 2 ^ i)) (edge_count Cube d)) _
     (pair_passes d (joins d) (all_joined d is) lo i (omega arith) s.axis s.low) in
     let q = and_parts ((edge_ends Cube d (edge_between Cube d lo (lo + 2 ^ i))).0 == lo) _ p.1 in
     (edge_between Cube d lo (lo + 2 ^ i), ltb-true _ _ p.0, pair_same _ _ _ _ (eqb-true _ _ q.0) (eqb-true _ _ q.1 ∙ sym s.high))

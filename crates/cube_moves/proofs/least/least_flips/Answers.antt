@@ -28,8 +28,7 @@ returns g c =
     let in_first : c.loop-flips.first < 2 ^ g.row.D = omega (arith, is.within) in
     record {
       within = in_first;
-      carries =
-          subst (λ (m : ℕ). Carries g.row.D (flips_alone g.row.D c.loop-flips.first) c.args.label m) (sym is.is_there)
+      carries = subst (λ (m : ℕ). Carries g.row.D (flips_alone g.row.D c.loop-flips.first) c.args.label m) (sym is.is_there)
           (c.by_flips-labels.ensures c.loop-flips.first in_first);
       is_least = λ f m h e.
           let same = flips_carry_once g.row.D f c.args.label (get_or labels f 0) m (c.by_flips-labels.ensures f h) e in

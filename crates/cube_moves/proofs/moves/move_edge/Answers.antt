@@ -13,15 +13,13 @@ edge_of-requires-clause-joined g c =
     c.move_corner-from.ensures.value ∙ ap (λ (p : ℕ × ℕ). move_corner g.row.D by p.0) c.cube_edge-first.ensures.ends in
     let second : c.move_corner-to.result ≡ move_corner g.row.D by (edge_ends Cube g.row.D c.args.edge).1 =
     c.move_corner-to.ensures.value ∙ ap (λ (p : ℕ × ℕ). move_corner g.row.D by p.1) c.cube_edge-first.ensures.ends in
-    let low =
-    c.min.ensures ∙ ap (λ (k : ℕ). min k c.move_corner-to.result) first
+    let low = c.min.ensures ∙ ap (λ (k : ℕ). min k c.move_corner-to.result) first
     ∙ ap (λ (k : ℕ). min (move_corner g.row.D by (edge_ends Cube g.row.D c.args.edge).0) k) second in
-    let high =
-    c.max.ensures ∙ ap (λ (k : ℕ). max k c.move_corner-to.result) first
+    let high = c.max.ensures ∙ ap (λ (k : ℕ). max k c.move_corner-to.result) first
     ∙ ap (λ (k : ℕ). max (move_corner g.row.D by (edge_ends Cube g.row.D c.args.edge).0) k) second in
     subst (λ (k : ℕ). IsJoined g.row.D k c.max.result) (sym low)
-    (subst (λ (k : ℕ). IsJoined g.row.D (min (move_corner g.row.D by (edge_ends Cube g.row.D c.args.edge).0)
-    (move_corner g.row.D by (edge_ends Cube g.row.D c.args.edge).1)) k) (sym high)
+    (subst (λ (k : ℕ). IsJoined g.row.D
+    (min (move_corner g.row.D by (edge_ends Cube g.row.D c.args.edge).0) (move_corner g.row.D by (edge_ends Cube g.row.D c.args.edge).1)) k) (sym high)
     (moved_joined g.row.D c.requires.dimension by c.requires.is_move c.args.edge c.requires.edge))
 
 pub returns-clause-value : goal.returns-clause-value
@@ -31,14 +29,10 @@ returns-clause-value g c =
     c.move_corner-from.ensures.value ∙ ap (λ (p : ℕ × ℕ). move_corner g.row.D by p.0) c.cube_edge-first.ensures.ends in
     let second : c.move_corner-to.result ≡ move_corner g.row.D by (edge_ends Cube g.row.D c.args.edge).1 =
     c.move_corner-to.ensures.value ∙ ap (λ (p : ℕ × ℕ). move_corner g.row.D by p.1) c.cube_edge-first.ensures.ends in
-    let low =
-    c.min.ensures ∙ ap (λ (k : ℕ). min k c.move_corner-to.result) first
+    let low = c.min.ensures ∙ ap (λ (k : ℕ). min k c.move_corner-to.result) first
     ∙ ap (λ (k : ℕ). min (move_corner g.row.D by (edge_ends Cube g.row.D c.args.edge).0) k) second in
-    let high =
-    c.max.ensures ∙ ap (λ (k : ℕ). max k c.move_corner-to.result) first
+    let high = c.max.ensures ∙ ap (λ (k : ℕ). max k c.move_corner-to.result) first
     ∙ ap (λ (k : ℕ). max (move_corner g.row.D by (edge_ends Cube g.row.D c.args.edge).0) k) second in
     c.edge_of.ensures.value ∙ ap (λ (k : ℕ). edge_between Cube g.row.D k c.max.result) low
-    ∙ ap
-    (edge_between Cube g.row.D
-    (min (move_corner g.row.D by (edge_ends Cube g.row.D c.args.edge).0) (move_corner g.row.D by (edge_ends Cube g.row.D c.args.edge).1)))
-    high
+    ∙ ap (edge_between Cube g.row.D
+    (min (move_corner g.row.D by (edge_ends Cube g.row.D c.args.edge).0) (move_corner g.row.D by (edge_ends Cube g.row.D c.args.edge).1))) high

@@ -16,12 +16,14 @@ loop-corner-preserved g c =
     let inside : c.loop-corner.corner < 2 ^ g.row.D = omega arith in
     elim c.if-label-corner-eq1.branch [
       | then-label-corner-eq1 w ↦
-          let some : is_set c.args.label c.loop-corner.corner ≡ true = eq-eqb _ 1 (sym (shr_and_one c.args.label c.loop-corner.corner) ∙ w.if-label-corner-eq1.true) in
+          let some : is_set c.args.label c.loop-corner.corner ≡ true =
+          eq-eqb _ 1 (sym (shr_and_one c.args.label c.loop-corner.corner) ∙ w.if-label-corner-eq1.true) in
           subst (IsMovedBelow g.row.D by c.args.label (c.loop-corner.corner + 1)) (sym w.moved-is)
           (one_more_moved g.row.D c.requires.dimension by c.requires.is_move c.args.label c.loop-corner.corner c.loop-corner.moved w.move_corner.result inside
           w.move_corner.ensures.value some c.loop-corner.invariant)
       | else-label-corner-eq1 w ↦
-          let none : is_set c.args.label c.loop-corner.corner ≡ false = ne_eqb _ 1 (λ e. w.if-label-corner-eq1.false (shr_and_one c.args.label c.loop-corner.corner ∙ e)) in
+          let none : is_set c.args.label c.loop-corner.corner ≡ false =
+          ne_eqb _ 1 (λ e. w.if-label-corner-eq1.false (shr_and_one c.args.label c.loop-corner.corner ∙ e)) in
           subst (IsMovedBelow g.row.D by c.args.label (c.loop-corner.corner + 1)) (sym w.moved-is)
           (one_left_out g.row.D by c.args.label c.loop-corner.corner c.loop-corner.moved none c.loop-corner.invariant)
     ]
