@@ -8,39 +8,36 @@ use Rattle.std.proofs.lemmas.List.Elements.{All-nil, All-cons, All-head, All-tai
 use Rattle.std.proofs.lemmas.List.FromFn.{length-map-range_with_len}
 use Rattle.polynomials.proofs.Ring.{var, con, ◌⊖◌, ◌⊗◌, neg, value, normal, ring}
 use Rattle.polynomials.proofs.SmallLaws.{same_ints}
+use Rattle.iso_model.specs.Orders.{numbers, orders, has}
+use Rattle.iso_model.specs.Cells.{is_set}
 use Rattle.iso_model.specs.Moves.{Move}
 use Rattle.iso_model.specs.Turns.{turn, total, signed, minus, dot, HalfSpace, HasNormal, Holds, slack, same_int, Spans, rows_to}
 use Rattle.iso_model.specs.Hulls.{IsFacet, members}
+use Rattle.iso_model.proofs.Deciding.{below_contained, each-from_All, All-from_each, any_default}
+use Rattle.iso_model.proofs.KeptLaws.{filter-same}
+use Rattle.iso_model.proofs.PlaceLaws.{map-map}
 use Rattle.small_turn.proofs.TurnExpr as E
 use Rattle.small_turn.proofs.Planes.{length-minus}
 use Rattle.small_turn.proofs.PointLaws.{get_or-minus}
 use Rattle.cell_lattice.specs.Agreement.{agree_on}
+use Rattle.cell_lattice.specs.Dimensions.{IsDimension, in_each_dimension}
 use Rattle.cube_moves.proofs.OrderChecks.{axis-below, back}
 use Rattle.cube_moves.proofs.InverseMoves.{order_turns_back}
 use Rattle.halfspace.proofs.Bases.{length-members}
+use Rattle.halfspace.proofs.SetNumbers.{has_below}
 use Rattle.case_patch.proofs.OffSets.{has_is_test}
 use Rattle.case_patch.proofs.MovedTurns.{map_below, places_of, at_place, value-total, turned, turned_spans}
-use Rattle.lists.specs.Orders.{numbers, orders, has}
-use Rattle.lists.specs.Bits.{is_set}
-use Rattle.lists.proofs.Contained.{below_contained, each-from_All, All-from_each, any_default, filter-same}
-use Rattle.lists.proofs.MemberLaws.{map-map}
-use Rattle.iso_model.specs.Dimensions.{IsDimension, in_each_dimension}
-use Rattle.halfspace.proofs.TightNumbers.{has_below}
 
 -- a point of the cube in quarter-units that a move carries
 abbrev pub placed : ℕ → Move → List ℤ → List ℤ
 placed d by x =
-    map
-    (λ i.
-    if is_set by.flips i then pos 4 -ℤ slice_index_or x (slice_index by.axes i) (pos 0) else slice_index_or x (slice_index by.axes i) (pos 0))
+    map (λ i. if is_set by.flips i then pos 4 -ℤ slice_index_or x (slice_index by.axes i) (pos 0) else slice_index_or x (slice_index by.axes i) (pos 0))
     (numbers d)
 
 length-placed : (d : ℕ) (by : Move) (x : List ℤ) → length (placed d by x) ≡ d
 length-placed d by x =
     length-map-range_with_len
-    (λ i.
-    if is_set by.flips i then pos 4 -ℤ slice_index_or x (slice_index by.axes i) (pos 0) else slice_index_or x (slice_index by.axes i) (pos 0))
-    0 d
+    (λ i. if is_set by.flips i then pos 4 -ℤ slice_index_or x (slice_index by.axes i) (pos 0) else slice_index_or x (slice_index by.axes i) (pos 0)) 0 d
 
 length-turned : (d : ℕ) (by : Move) (v : List ℤ) → length (turned d by v) ≡ d
 length-turned d by v = length-map-range_with_len (λ i. signed (is_set by.flips i) (slice_index_or v (slice_index by.axes i) (pos 0))) 0 d
@@ -60,21 +57,12 @@ placed_minus d is by o x y lx ly =
     let a = axis-below d is by.axes o k in_k in
     get_or-minus (placed d by x) (placed d by y) k (length-placed d by x ∙ sym (length-placed d by y)) (omega (arith, in_k, length-placed d by x))
     ∙ ap (λ (z : ℤ). z -ℤ slice_index_or (placed d by y) k (pos 0))
-    (at_place
-    (λ i.
-    if is_set by.flips i then pos 4
-    -ℤ slice_index_or x (slice_index by.axes i) (pos 0) else slice_index_or x (slice_index by.axes i) (pos 0))
-    d k (pos 0) in_k)
-    ∙ ap
-    (λ (z : ℤ).
-    (if is_set by.flips k then pos 4
-    -ℤ slice_index_or x (slice_index by.axes k) (pos 0) else slice_index_or x (slice_index by.axes k) (pos 0))
+    (at_place (λ i. if is_set by.flips i then pos 4 -ℤ slice_index_or x (slice_index by.axes i) (pos 0) else slice_index_or x (slice_index by.axes i)
+    (pos 0)) d k (pos 0) in_k)
+    ∙ ap (λ (z : ℤ). (if is_set by.flips k then pos 4 -ℤ slice_index_or x (slice_index by.axes k) (pos 0) else slice_index_or x (slice_index by.axes k) (pos 0))
     -ℤ z)
-    (at_place
-    (λ i.
-    if is_set by.flips i then pos 4
-    -ℤ slice_index_or y (slice_index by.axes i) (pos 0) else slice_index_or y (slice_index by.axes i) (pos 0))
-    d k (pos 0) in_k)
+    (at_place (λ i. if is_set by.flips i then pos 4 -ℤ slice_index_or y (slice_index by.axes i) (pos 0) else slice_index_or y (slice_index by.axes i) (pos 0)) d
+    k (pos 0) in_k)
     ∙ one_difference (is_set by.flips k) (slice_index_or x (slice_index by.axes k) (pos 0)) (slice_index_or y (slice_index by.axes k) (pos 0))
     ∙ ap (signed (is_set by.flips k)) (sym (get_or-minus x y (slice_index by.axes k) (lx ∙ sym ly) (omega (arith, a, lx))))
     ∙ sym (at_place (λ i. signed (is_set by.flips i) (slice_index_or (minus x y) (slice_index by.axes i) (pos 0))) d k (pos 0) in_k))
@@ -90,8 +78,8 @@ rows_placed d is by o (p ∷ ps) x wide lx =
     ∙ ap (λ (r : List ℤ). map (turned d by) (map (λ q. minus q p) ps) ++ (r ∷ [])) (placed_minus d is by o x p lx (All-head (λ q. length q ≡ d) p ps wide))
     ∙ sym (map-append (turned d by) (map (λ q. minus q p) ps) (minus x p ∷ []))
   where
-    each : (qs : List (List ℤ)) → All (λ q. length q ≡ d) qs
-        → map (λ q. minus q (placed d by p)) (map (placed d by) qs) ≡ map (turned d by) (map (λ q. minus q p) qs)
+    each : (qs : List (List ℤ)) → All (λ q. length q ≡ d) qs → map (λ q. minus q (placed d by p)) (map (placed d by) qs)
+        ≡ map (turned d by) (map (λ q. minus q p) qs)
     each [] w = refl
     each (q ∷ qs) w =
         ap (λ (r : List ℤ). r ∷ map (λ q. minus q (placed d by p)) (map (placed d by) qs))
@@ -117,13 +105,12 @@ rows_count : (ps : List (List ℤ)) (x : List ℤ) → length (rows_to ps x) ≡
 rows_count [] x = refl
 rows_count (p ∷ ps) x = length-append (map (λ q. minus q p) ps) (minus x p ∷ []) ∙ omega (arith, length-map ps (λ q. minus q p))
 
-pub placed_spans : (d : ℕ) → IsDimension d → (by : Move) → Contains (orders d) by.axes → (ps : List (List ℤ)) → length ps ≡ d
-    → All (λ p. length p ≡ d) ps → Spans ps → Spans (map (placed d by) ps)
+pub placed_spans : (d : ℕ) → IsDimension d → (by : Move) → Contains (orders d) by.axes → (ps : List (List ℤ)) → length ps ≡ d → All (λ p. length p ≡ d) ps
+    → Spans ps → Spans (map (placed d by) ps)
 placed_spans d is by o ps l wide s = (
   placed d by s.0,
   length-placed d by s.0 ∙ sym l ∙ sym (length-map ps (placed d by)),
-  λ e.
-      turned_spans d is by o (rows_to ps s.0) (rows_count ps s.0 ∙ l) (rows_wide d ps s.0 wide (s.1 ∙ l)) s.2
+  λ e. turned_spans d is by o (rows_to ps s.0) (rows_count ps s.0 ∙ l) (rows_wide d ps s.0 wide (s.1 ∙ l)) s.2
       (ap turn (sym (rows_placed d is by o ps s.0 wide (s.1 ∙ l))) ∙ e),
 )
 
@@ -144,14 +131,12 @@ dot-map f g (i ∷ is) = ap (λ (z : ℤ). f i *ℤ g i +ℤ z) (dot-map f g is)
 -- a sum over all axes, in another order
 same_sum : (d : ℕ) → IsDimension d → (axes : List ℕ) → Contains (orders d) axes
     → normal (E.total (map (λ i. var (slice_index axes i)) (numbers d))) ≡ normal (E.total (map var (numbers d)))
-same_sum d is axes o =
-    each-from_All (λ axes. normal (E.total (map (λ i. var (slice_index axes i)) (numbers d))) ≡ normal (E.total (map var (numbers d)))) (orders d)
-    (all d is) axes o
+same_sum d is axes o = each-from_All (λ axes. normal (E.total (map (λ i. var (slice_index axes i)) (numbers d))) ≡ normal (E.total (map var (numbers d))))
+    (orders d) (all d is) axes o
   where
-    all : (d : ℕ) → IsDimension d
-        → All (λ axes. normal (E.total (map (λ i. var (slice_index axes i)) (numbers d))) ≡ normal (E.total (map var (numbers d)))) (orders d)
-    all =
-        in_each_dimension
+    all : (d : ℕ) → IsDimension d → All (λ axes. normal (E.total (map (λ i. var (slice_index axes i)) (numbers d))) ≡ normal (E.total (map var (numbers d))))
+        (orders d)
+    all = in_each_dimension
         (λ d. All (λ axes. normal (E.total (map (λ i. var (slice_index axes i)) (numbers d))) ≡ normal (E.total (map var (numbers d)))) (orders d))
         (agree_on (λ axes. normal (E.total (map (λ i. var (slice_index axes i)) (numbers 2)))) (λ axes. normal (E.total (map var (numbers 2)))) (orders 2) refl)
         (agree_on (λ axes. normal (E.total (map (λ i. var (slice_index axes i)) (numbers 3)))) (λ axes. normal (E.total (map var (numbers 3)))) (orders 3) refl)
@@ -160,8 +145,7 @@ same_sum d is axes o =
 sum_moved : (d : ℕ) → IsDimension d → (axes : List ℕ) → Contains (orders d) axes → (u : ℕ → ℤ)
     → total (map (λ i. u (slice_index axes i)) (numbers d)) ≡ total (map u (numbers d))
 sum_moved d is axes o u =
-    ap total
-    (map_below (λ i. u (slice_index axes i)) (λ i. slice_index_or ρ (slice_index axes i) (pos 0)) d
+    ap total (map_below (λ i. u (slice_index axes i)) (λ i. slice_index_or ρ (slice_index axes i) (pos 0)) d
     (λ i h. sym (at_place u d (slice_index axes i) (pos 0) (axis-below d is axes o i h))))
     ∙ ap total (sym (map-map (λ i. var (slice_index axes i)) (value ρ) (numbers d))) ∙ sym (value-total ρ (map (λ i. var (slice_index axes i)) (numbers d)))
     ∙ ring ρ (E.total (map (λ i. var (slice_index axes i)) (numbers d))) (E.total (map var (numbers d))) (same_sum d is axes o)
@@ -184,8 +168,8 @@ turned_dot : (d : ℕ) → IsDimension d → (by : Move) → Contains (orders d)
 turned_dot d is by o n x ln lx =
     dot-map (λ i. signed (is_set by.flips i) (at n (slice_index by.axes i)))
     (λ i. if is_set by.flips i then pos 4 -ℤ at x (slice_index by.axes i) else at x (slice_index by.axes i)) (numbers d)
-    ∙ ap total (map_below _ (λ i. at n (slice_index by.axes i) *ℤ at x (slice_index by.axes i) -ℤ
-    (if is_set by.flips i then pos 4 *ℤ at n (slice_index by.axes i) else pos 0)) d
+    ∙ ap total (map_below _
+    (λ i. at n (slice_index by.axes i) *ℤ at x (slice_index by.axes i) -ℤ (if is_set by.flips i then pos 4 *ℤ at n (slice_index by.axes i) else pos 0)) d
     (λ i h. one_product (is_set by.flips i) (at n (slice_index by.axes i)) (at x (slice_index by.axes i))))
     ∙ total-minus (λ i. at n (slice_index by.axes i) *ℤ at x (slice_index by.axes i))
     (λ i. if is_set by.flips i then pos 4 *ℤ at n (slice_index by.axes i) else pos 0) (numbers d)
@@ -205,8 +189,8 @@ moved_width : (d : ℕ) (by : Move) (h : HalfSpace) → length (moved_half d by 
 unfolding moved_half
 moved_width d by h = length-turned d by h.normal
 
-pub moved_slack : (d : ℕ) → IsDimension d → (by : Move) → Contains (orders d) by.axes → (h : HalfSpace) (x : List ℤ) → length h.normal ≡ d
-    → length x ≡ d → slack (moved_half d by h) (placed d by x) ≡ slack h x
+pub moved_slack : (d : ℕ) → IsDimension d → (by : Move) → Contains (orders d) by.axes → (h : HalfSpace) (x : List ℤ) → length h.normal ≡ d → length x ≡ d
+    → slack (moved_half d by h) (placed d by x) ≡ slack h x
 unfolding moved_half
 moved_slack d is by o h x ln lx =
     ap (λ (z : ℤ). h.bound -ℤ flipped_part d by h.normal -ℤ z) (turned_dot d is by o h.normal x ln lx)
@@ -273,18 +257,13 @@ facet_moved d is by o P Q τ σ m wide set f = record {
   half = moved_half d by f.half;
   wide = width;
   normal = moved_normal d is by o f.half f.wide f.normal;
-  holds =
-      λ i e h.
-      subst (λ (p : List ℤ). Holds (moved_half d by f.half) p) (any_default P i [] e h)
+  holds = λ i e h. subst (λ (p : List ℤ). Holds (moved_half d by f.half) p) (any_default P i [] e h)
       (subst (λ (z : ℤ). pos 0 ≤ℤ z) (sym (slack_at i h)) (f.holds (σ i) [] (m.into i h)));
-  tight =
-      filter-same (λ i. has set (σ i)) (λ i. same_int (slack (moved_half d by f.half) (slice_index_or P i [])) (pos 0)) (numbers (length P))
+  tight = filter-same (λ i. has set (σ i)) (λ i. same_int (slack (moved_half d by f.half) (slice_index_or P i [])) (pos 0)) (numbers (length P))
       (λ i c. tight_at i (below_contained (length P) i c));
   basis = map τ f.basis;
-  within =
-      All-map (λ i. IsTrue (has (moved_set P σ set) i)) τ f.basis
-      (All-from_each (λ j. IsTrue (has (moved_set P σ set) (τ j))) f.basis
-      (λ j c. within_at j (each-from_All (λ j. IsTrue (has set j)) f.basis f.within j c)));
+  within = All-map (λ i. IsTrue (has (moved_set P σ set) i)) τ f.basis
+      (All-from_each (λ j. IsTrue (has (moved_set P σ set) (τ j))) f.basis (λ j c. within_at j (each-from_All (λ j. IsTrue (has set j)) f.basis f.within j c)));
   full = length-map f.basis τ ∙ f.full;
   spans = subst Spans (sym (members_moved d by P Q τ σ m f.basis in_Q))
       (placed_spans d is by o (members Q f.basis) (length-members Q f.basis ∙ f.full) (members_long d Q wide f.basis in_Q) f.spans);

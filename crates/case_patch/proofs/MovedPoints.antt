@@ -1,6 +1,6 @@
 -- The points of a carried labelling of a cube are the moved points.
-use Rattle.std.specs.Prelude.{◌≡◌, ◌⊎◌, ℕ, zero, suc, ◌+◌, ◌-◌, ◌*◌, ◌%◌, ◌^◌, ◌<◌, ◌≤◌, ℤ, pos, ◌-ℤ◌, Bool, true, false, not, cond, ◌==◌, nat_lt}
-use Rattle.std.specs.Prelude.{nat_eq, if◌then◌else◌, List, [], ◌∷◌, map, length, slice_index, slice_index_or, Contains}
+use Rattle.std.specs.Prelude.{◌≡◌, ◌⊎◌, ℕ, zero, suc, ◌+◌, ◌-◌, ◌*◌, ◌%◌, ◌^◌, ◌<◌, ◌≤◌, ℤ, pos, ◌-ℤ◌, Bool, true, false, not, cond, ◌==◌, nat_lt, nat_eq}
+use Rattle.std.specs.Prelude.{if◌then◌else◌, List, [], ◌∷◌, map, length, slice_index, slice_index_or, Contains}
 use Rattle.std.specs.Int.{bit_at}
 use Rattle.std.proofs.Common.{refl, sym, ap, ◌∙◌, arith, inl, inr}
 use Rattle.std.proofs.lemmas.Bool.{eq-eqb, eqb-true, eqb-false, lt-ltb, le-ltb, cases_lt}
@@ -9,13 +9,18 @@ use Rattle.std.proofs.lemmas.Int.{ints}
 use Rattle.std.proofs.lemmas.List.{length-map, get_or-map, get_or_append_left, get_or-append_right}
 use Rattle.std.proofs.lemmas.Nat.Bits.{bit_at-lt}
 use Rattle.iso_model.specs.declared.Kind.TheVariants.{Cube}
+use Rattle.iso_model.specs.Orders.{numbers, orders}
 use Rattle.iso_model.specs.Points.{plus}
-use Rattle.iso_model.specs.Cells.{corner_point, edge_count, edge_ends, edge_midpoint, midpoint_between}
+use Rattle.iso_model.specs.Cells.{is_set, corner_point, edge_count, edge_ends, edge_midpoint, midpoint_between}
 use Rattle.iso_model.specs.Bipolar.{is_bipolar_in}
 use Rattle.iso_model.specs.Entries.{label_edges, label_corners, label_points}
 use Rattle.iso_model.specs.Moves.{Move, IsMove, Carries, move_corner, move_edge}
+use Rattle.iso_model.proofs.Deciding.{below_contained, contained_below, Contains-at}
+use Rattle.iso_model.proofs.FaceLaws.{Contains-filter, Contains-split}
+use Rattle.iso_model.proofs.PlaceLaws.{map-map}
 use Rattle.pulling_tri.proofs.ChainLaws.{Ascends, filter_ascends}
-use Rattle.pulling_tri.proofs.SetBits.{kept_by, range_ascends}
+use Rattle.pulling_tri.proofs.SetBits.{kept_by, kept_passes, range_ascends}
+use Rattle.cell_lattice.specs.Dimensions.{IsDimension}
 use Rattle.cube_moves.proofs.MovedBits.{corner-bit, corner-below}
 use Rattle.cube_moves.proofs.OrderChecks.{axis-below}
 use Rattle.cube_moves.proofs.InverseMoves.{AreInverse, inverse_too, carries_back, edge_moved, edge_moved_ends, edge_there, bipolar_moved}
@@ -23,12 +28,6 @@ use Rattle.case_patch.specs.MovedPoints.{place, carried_point}
 use Rattle.case_patch.proofs.LabelPoints.{points_length}
 use Rattle.case_patch.proofs.MovedTurns.{map_below, at_place}
 use Rattle.case_patch.proofs.MovedFacets.{placed, PointsMatch}
-use Rattle.lists.specs.Orders.{numbers, orders}
-use Rattle.lists.specs.Bits.{is_set}
-use Rattle.lists.proofs.Contained.{below_contained, contained_below, Contains-at, Contains-filter, Contains-split, Contains-passes}
-use Rattle.lists.proofs.MemberLaws.{map-map}
-use Rattle.iso_model.specs.Dimensions.{IsDimension}
-use Rattle.iso_model.proofs.PointLaws.{plus_comm}
 
 -- ---- places in lists
 
@@ -99,8 +98,7 @@ corner_placed d is by o k =
     ∙ sym (map-map (λ i. 2 * bit_at (move_corner d by k) i) (λ x. pos (2 * x)) (numbers d))
   where
     twice_at : (a : ℕ) → a < d → slice_index_or (map (λ x. pos (2 * x)) (corner_point Cube d k)) a (pos 0) ≡ pos (2 * (2 * bit_at k a))
-    twice_at a h =
-        ap (λ (xs : List ℤ). slice_index_or xs a (pos 0)) (map-map (λ i. 2 * bit_at k i) (λ x. pos (2 * x)) (numbers d))
+    twice_at a h = ap (λ (xs : List ℤ). slice_index_or xs a (pos 0)) (map-map (λ i. 2 * bit_at k i) (λ x. pos (2 * x)) (numbers d))
         ∙ at_place (λ i. pos (2 * (2 * bit_at k i))) d a (pos 0) h
 
 -- the midpoint of two moved corners
@@ -116,19 +114,24 @@ middle_placed d is by o j k =
     ∙ sym (middle (move_corner d by j) (move_corner d by k))
   where
     middle : (x y : ℕ) → map pos (midpoint_between Cube d (x, y)) ≡ map (λ i. pos (2 * bit_at x i + 2 * bit_at y i)) (numbers d)
-    middle x y =
-        ap (map pos) (plus-map (λ i. 2 * bit_at x i) (λ i. 2 * bit_at y i) (numbers d))
+    middle x y = ap (map pos) (plus-map (λ i. 2 * bit_at x i) (λ i. 2 * bit_at y i) (numbers d))
         ∙ map-map (λ i. 2 * bit_at x i + 2 * bit_at y i) pos (numbers d)
 
     middle_at : (a : ℕ) → a < d → slice_index_or (map pos (midpoint_between Cube d (j, k))) a (pos 0) ≡ pos (2 * bit_at j a + 2 * bit_at k a)
     middle_at a h = ap (λ (xs : List ℤ). slice_index_or xs a (pos 0)) (middle j k) ∙ at_place (λ i. pos (2 * bit_at j i + 2 * bit_at k i)) d a (pos 0) h
+
+plus-turned : (xs ys : List ℕ) → plus xs ys ≡ plus ys xs
+plus-turned [] [] = refl
+plus-turned [] (y ∷ ys) = refl
+plus-turned (x ∷ xs) [] = refl
+plus-turned (x ∷ xs) (y ∷ ys) = let s : x + y ≡ y + x = omega arith in ap (λ (n : ℕ). n ∷ plus xs ys) s ∙ ap (λ (zs : List ℕ). (y + x) ∷ zs) (plus-turned xs ys)
 
 -- the midpoint of a moved edge
 pub edge_placed : (d : ℕ) → IsDimension d → (by : Move) → IsMove d by → (e : ℕ) → e < edge_count Cube d
     → placed d by (map pos (edge_midpoint Cube d e)) ≡ map pos (edge_midpoint Cube d (move_edge d by e))
 edge_placed d is by move e h =
     edge_moved_ends d is by move e h (λ x y. placed d by (map pos (edge_midpoint Cube d e)) ≡ map pos (plus (corner_point Cube d x) (corner_point Cube d y)))
-    (λ x y p. p ∙ ap (map pos) (plus_comm (corner_point Cube d x) (corner_point Cube d y)))
+    (λ x y p. p ∙ ap (map pos) (plus-turned (corner_point Cube d x) (corner_point Cube d y)))
     (middle_placed d is by move.0 (edge_ends Cube d e).0 (edge_ends Cube d e).1)
 
 -- ---- the points of a labelling, one by one
@@ -173,14 +176,10 @@ midpoint_carried : (d : ℕ) → IsDimension d → (by un : Move) → AreInverse
 midpoint_carried d is by un inv label other c i h =
     let j : ℕ = place fs f in
     let to : carried_point d by label other i ≡ j =
-    ap
-    (λ (b : Bool).
-    if b then place fs (move_edge d by (slice_index es i)) else length fs + place ls (move_corner d by (slice_index ks (i - length es))))
+    ap (λ (b : Bool). if b then place fs (move_edge d by (slice_index es i)) else length fs + place ls (move_corner d by (slice_index ks (i - length es))))
     below in
     let back : carried_point d un other label j ≡ i =
-    ap
-    (λ (b : Bool).
-    if b then place es (move_edge d un (slice_index fs j)) else length es + place ks (move_corner d un (slice_index ls (j - length fs))))
+    ap (λ (b : Bool). if b then place es (move_edge d un (slice_index fs j)) else length es + place ks (move_corner d un (slice_index ls (j - length fs))))
     (lt-ltb j (length fs) found.0)
     ∙ ap (λ (x : ℕ). place es (move_edge d un x)) found.1 ∙ ap (place es) (edge_there d is by un inv e in_e) ∙ own_place es (edges_ascend d label) i h in
     record {
@@ -215,8 +214,7 @@ midpoint_carried d is by un inv label other c i h =
     there = Contains-at (label_edges Cube d label) i 0 h
 
     in_e : slice_index (label_edges Cube d label) i < edge_count Cube d
-    in_e =
-        below_contained (edge_count Cube d) (slice_index (label_edges Cube d label) i)
+    in_e = below_contained (edge_count Cube d) (slice_index (label_edges Cube d label) i)
         (Contains-filter (is_bipolar_in Cube d label) (numbers (edge_count Cube d)) (slice_index (label_edges Cube d label) i) there)
 
     member : Contains (label_edges Cube d other) (move_edge d by (slice_index (label_edges Cube d label) i))
@@ -224,11 +222,10 @@ midpoint_carried d is by un inv label other c i h =
         (contained_below (edge_count Cube d) (move_edge d by (slice_index (label_edges Cube d label) i))
         (edge_moved d is by inv.is_move (slice_index (label_edges Cube d label) i) in_e).below)
         (bipolar_moved d is by inv.is_move label other c (slice_index (label_edges Cube d label) i) in_e
-        ∙ Contains-passes (is_bipolar_in Cube d label) (numbers (edge_count Cube d)) (slice_index (label_edges Cube d label) i) there)
+        ∙ kept_passes (is_bipolar_in Cube d label) (numbers (edge_count Cube d)) (slice_index (label_edges Cube d label) i) there)
 
     found : (place (label_edges Cube d other) (move_edge d by (slice_index (label_edges Cube d label) i)) < length (label_edges Cube d other))
-        ×
-        (slice_index (label_edges Cube d other) (place (label_edges Cube d other) (move_edge d by (slice_index (label_edges Cube d label) i)))
+        × (slice_index (label_edges Cube d other) (place (label_edges Cube d other) (move_edge d by (slice_index (label_edges Cube d label) i)))
         ≡ move_edge d by (slice_index (label_edges Cube d label) i))
     found = member_place (label_edges Cube d other) (move_edge d by (slice_index (label_edges Cube d label) i)) member
 
@@ -239,22 +236,17 @@ corner_carried : (d : ℕ) → IsDimension d → (by un : Move) → AreInverse d
 corner_carried d is by un inv label other c i h in_i =
     let p : ℕ = place ls (move_corner d by (slice_index ks n)) in
     let to : carried_point d by label other i ≡ length fs + p =
-    ap
-    (λ (b : Bool).
-    if b then place fs (move_edge d by (slice_index es i)) else length fs + place ls (move_corner d by (slice_index ks (i - length es))))
+    ap (λ (b : Bool). if b then place fs (move_edge d by (slice_index es i)) else length fs + place ls (move_corner d by (slice_index ks (i - length es))))
     (le-ltb i (length es) h) in
     let past : nat_lt (length fs + p) (length fs) ≡ false = le-ltb (length fs + p) (length fs) (omega arith) in
     let less : length fs + p - length fs ≡ p = omega arith in
     let whole : length es + n ≡ i = omega arith in
     let back : carried_point d un other label (length fs + p) ≡ i =
-    ap
-    (λ (b : Bool).
-    if b then place es (move_edge d un (slice_index fs (length fs + p))) else length es
-    + place ks (move_corner d un (slice_index ls (length fs + p - length fs))))
-    past
+    ap (λ (b : Bool). if b then place es (move_edge d un (slice_index fs (length fs + p))) else length es + place ks
+    (move_corner d un (slice_index ls (length fs + p - length fs)))) past
     ∙ ap (λ (q : ℕ). length es + place ks (move_corner d un (slice_index ls q))) less ∙ ap (λ (x : ℕ). length es + place ks (move_corner d un x)) found.1
-    ∙ ap (λ (x : ℕ). length es + place ks x) (inv.there (slice_index ks n) in_k)
-    ∙ ap (λ (q : ℕ). length es + q) (own_place ks (corners_ascend d label) n in_n) ∙ whole in
+    ∙ ap (λ (x : ℕ). length es + place ks x) (inv.there (slice_index ks n) in_k) ∙ ap (λ (q : ℕ). length es + q) (own_place ks (corners_ascend d label) n in_n)
+    ∙ whole in
     let there : length fs + p < length (label_points Cube d other) = omega (arith, found.0, points_length Cube d other) in
     record {
       onto = omega (arith, to, there);
@@ -294,17 +286,15 @@ corner_carried d is by un inv label other c i h in_i =
         (contained_below (2 ^ d) (move_corner d by (slice_index (label_corners Cube d label) (i - length (label_edges Cube d label))))
         (corner-below d by (slice_index (label_corners Cube d label) (i - length (label_edges Cube d label)))))
         (c.1 (slice_index (label_corners Cube d label) (i - length (label_edges Cube d label))) in_k
-        ∙ Contains-passes (is_set label) (numbers (2 ^ d)) (slice_index (label_corners Cube d label) (i - length (label_edges Cube d label))) there_k)
+        ∙ kept_passes (is_set label) (numbers (2 ^ d)) (slice_index (label_corners Cube d label) (i - length (label_edges Cube d label))) there_k)
 
-    found :
-        (place (label_corners Cube d other) (move_corner d by (slice_index (label_corners Cube d label) (i - length (label_edges Cube d label))))
-        < length (label_corners Cube d other))
+    found : (place (label_corners Cube d other) (move_corner d by (slice_index (label_corners Cube d label) (i - length (label_edges Cube d label)))) < length
+        (label_corners Cube d other))
         × (slice_index (label_corners Cube d other)
         (place (label_corners Cube d other) (move_corner d by (slice_index (label_corners Cube d label) (i - length (label_edges Cube d label)))))
         ≡ move_corner d by (slice_index (label_corners Cube d label) (i - length (label_edges Cube d label))))
-    found =
-        member_place (label_corners Cube d other)
-        (move_corner d by (slice_index (label_corners Cube d label) (i - length (label_edges Cube d label)))) member
+    found = member_place (label_corners Cube d other) (move_corner d by (slice_index (label_corners Cube d label) (i - length (label_edges Cube d label))))
+        member
 
 pub point_carried : (d : ℕ) → IsDimension d → (by un : Move) → AreInverse d by un → (label other : ℕ) → Carries d by label other → (i : ℕ)
     → i < length (label_points Cube d label)

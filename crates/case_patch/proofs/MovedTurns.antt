@@ -1,6 +1,6 @@
 -- Rows with their columns in another order and with signs: the turn stays other than zero.
-use Rattle.std.specs.Prelude.{◌≡◌, ◌≢◌, ℕ, ◌+◌, ◌-◌, ◌*◌, ◌/◌, ◌%◌, ◌<◌, ℤ, pos, negsuc, ◌+ℤ◌, ◌*ℤ◌, Bool, true, false, nat_lt, if◌then◌else◌, List}
-use Rattle.std.specs.Prelude.{[], ◌∷◌, map, length, slice_index, slice_index_or, All, Contains, zero, suc}
+use Rattle.std.specs.Prelude.{◌≡◌, ◌≢◌, ℕ, ◌+◌, ◌-◌, ◌*◌, ◌/◌, ◌%◌, ◌<◌, ℤ, pos, negsuc, ◌+ℤ◌, ◌*ℤ◌, Bool, true, false, nat_lt, if◌then◌else◌, List, [], ◌∷◌}
+use Rattle.std.specs.Prelude.{map, length, slice_index, slice_index_or, All, Contains, zero, suc}
 use Rattle.std.proofs.Common.{refl, sym, ap, ◌∙◌, arith}
 use Rattle.std.proofs.lemmas.Bool.Decides.{nat_tests}
 use Rattle.std.proofs.lemmas.Int.{ints}
@@ -8,16 +8,17 @@ use Rattle.std.proofs.lemmas.List.{length-map}
 use Rattle.std.proofs.lemmas.List.FromFn.{fill_by_all, get_or-map-range_with_len, length-map-range_with_len}
 use Rattle.polynomials.proofs.IntLaws.{mul-eq-zero, mul-minus_one, mul-one_left}
 use Rattle.polynomials.proofs.Ring.{Expr, var, ◌⊗◌, value, normal, ring}
+use Rattle.iso_model.specs.Orders.{numbers, orders, is_odd_order}
+use Rattle.iso_model.specs.Cells.{is_set}
 use Rattle.iso_model.specs.Moves.{Move}
 use Rattle.iso_model.specs.Turns.{turn, total, signed, product_along}
+use Rattle.iso_model.proofs.Deciding.{below_contained, each-from_All}
+use Rattle.iso_model.proofs.FaceLaws.{Contains-head, Contains-tail}
+use Rattle.iso_model.proofs.PlaceLaws.{map-map}
 use Rattle.small_turn.proofs.TurnExpr as E
 use Rattle.cell_lattice.specs.Agreement.{agree_on}
+use Rattle.cell_lattice.specs.Dimensions.{IsDimension, in_each_dimension}
 use Rattle.cube_moves.proofs.OrderChecks.{axis-below}
-use Rattle.lists.specs.Orders.{numbers, orders, is_odd_order}
-use Rattle.lists.specs.Bits.{is_set}
-use Rattle.lists.proofs.Contained.{below_contained, each-from_All, Contains-head, Contains-tail}
-use Rattle.lists.proofs.MemberLaws.{map-map}
-use Rattle.iso_model.specs.Dimensions.{IsDimension, in_each_dimension}
 
 -- ---- lists over the numbers below n
 
@@ -62,8 +63,7 @@ value-turn ρ rows =
     ∙ ap total (each (orders (length rows)))
     ∙ ap (λ (n : ℕ). total (map (λ o. signed (is_odd_order o) (product_along (map (map (value ρ)) rows) o)) (orders n))) (sym (length-map rows (map (value ρ))))
   where
-    each : (os : List (List ℕ))
-        → map (value ρ) (map (λ o. E.signed (is_odd_order o) (E.product_along rows o)) os)
+    each : (os : List (List ℕ)) → map (value ρ) (map (λ o. E.signed (is_odd_order o) (E.product_along rows o)) os)
         ≡ map (λ o. signed (is_odd_order o) (product_along (map (map (value ρ)) rows) o)) os
     each [] = refl
     each (o ∷ os) =
@@ -87,28 +87,21 @@ times n (i ∷ is) x = var (n + i) ⊗ times n is x
 same_turn : (d : ℕ) → IsDimension d → (axes : List ℕ) → Contains (orders d) axes
     → normal (E.turn (moved_rows d axes)) ≡ normal (E.signed (is_odd_order axes) (times (d * d) (numbers d) (E.turn (plain_rows d))))
 same_turn d is axes o =
-    each-from_All
-    (λ axes. normal (E.turn (moved_rows d axes)) ≡ normal (E.signed (is_odd_order axes) (times (d * d) (numbers d) (E.turn (plain_rows d)))))
+    each-from_All (λ axes. normal (E.turn (moved_rows d axes)) ≡ normal (E.signed (is_odd_order axes) (times (d * d) (numbers d) (E.turn (plain_rows d)))))
     (orders d) (all d is) axes o
   where
     all : (d : ℕ) → IsDimension d
-        → All
-        (λ axes. normal (E.turn (moved_rows d axes)) ≡ normal (E.signed (is_odd_order axes) (times (d * d) (numbers d) (E.turn (plain_rows d)))))
+        → All (λ axes. normal (E.turn (moved_rows d axes)) ≡ normal (E.signed (is_odd_order axes) (times (d * d) (numbers d) (E.turn (plain_rows d)))))
         (orders d)
-    all =
-        in_each_dimension
-        (λ d.
-        All
-        (λ axes.
-        normal (E.turn (moved_rows d axes))
-        ≡ normal (E.signed (is_odd_order axes) (times (d * d) (numbers d) (E.turn (plain_rows d)))))
+    all = in_each_dimension
+        (λ d. All (λ axes. normal (E.turn (moved_rows d axes)) ≡ normal (E.signed (is_odd_order axes) (times (d * d) (numbers d) (E.turn (plain_rows d)))))
         (orders d))
-        (agree_on (λ axes. normal (E.turn (moved_rows 2 axes)))
-        (λ axes. normal (E.signed (is_odd_order axes) (times 4 (numbers 2) (E.turn (plain_rows 2))))) (orders 2) refl)
-        (agree_on (λ axes. normal (E.turn (moved_rows 3 axes)))
-        (λ axes. normal (E.signed (is_odd_order axes) (times 9 (numbers 3) (E.turn (plain_rows 3))))) (orders 3) refl)
-        (agree_on (λ axes. normal (E.turn (moved_rows 4 axes)))
-        (λ axes. normal (E.signed (is_odd_order axes) (times 16 (numbers 4) (E.turn (plain_rows 4))))) (orders 4) refl)
+        (agree_on (λ axes. normal (E.turn (moved_rows 2 axes))) (λ axes. normal (E.signed (is_odd_order axes) (times 4 (numbers 2) (E.turn (plain_rows 2)))))
+        (orders 2) refl)
+        (agree_on (λ axes. normal (E.turn (moved_rows 3 axes))) (λ axes. normal (E.signed (is_odd_order axes) (times 9 (numbers 3) (E.turn (plain_rows 3)))))
+        (orders 3) refl)
+        (agree_on (λ axes. normal (E.turn (moved_rows 4 axes))) (λ axes. normal (E.signed (is_odd_order axes) (times 16 (numbers 4) (E.turn (plain_rows 4)))))
+        (orders 4) refl)
 
 -- ---- the values of the variables
 
@@ -193,12 +186,11 @@ moved_value d is by o entry =
     ρ : List ℤ
     ρ = values d entry (is_set by.flips)
 
-times-not_zero : (ρ : List ℤ) (n : ℕ) (is : List ℕ) (x : Expr) → ((i : ℕ) → Contains is i → slice_index_or ρ (n + i) (pos 0) ≢ pos 0)
-    → value ρ x ≢ pos 0 → value ρ (times n is x) ≢ pos 0
+times-not_zero : (ρ : List ℤ) (n : ℕ) (is : List ℕ) (x : Expr) → ((i : ℕ) → Contains is i → slice_index_or ρ (n + i) (pos 0) ≢ pos 0) → value ρ x ≢ pos 0
+    → value ρ (times n is x) ≢ pos 0
 times-not_zero ρ n [] x each ne = ne
 times-not_zero ρ n (i ∷ is) x each ne =
-    λ e.
-    times-not_zero ρ n is x (λ j c. each j (Contains-tail j i is c)) ne
+    λ e. times-not_zero ρ n is x (λ j c. each j (Contains-tail j i is c)) ne
     (mul-eq-zero (slice_index_or ρ (n + i) (pos 0)) (value ρ (times n is x)) e (each i (Contains-head i is)))
 
 signed-not_zero : (b : Bool) (z : ℤ) → z ≢ pos 0 → signed b z ≢ pos 0
@@ -213,8 +205,7 @@ turned_rows d is by o entry ne e =
     (λ i c z. sign-not_zero (is_set by.flips i) (sym (value-sign d entry (is_set by.flips) i (below_contained d i c)) ∙ z))
     (λ z. ne (ap turn (sym (plain_value d is entry (is_set by.flips))) ∙ sym (value-turn ρ (plain_rows d)) ∙ z)))
     (sym (value-signed ρ (is_odd_order by.axes) (times (d * d) (numbers d) (E.turn (plain_rows d))))
-    ∙ sym
-    (ring ρ (E.turn (moved_rows d by.axes)) (E.signed (is_odd_order by.axes) (times (d * d) (numbers d) (E.turn (plain_rows d))))
+    ∙ sym (ring ρ (E.turn (moved_rows d by.axes)) (E.signed (is_odd_order by.axes) (times (d * d) (numbers d) (E.turn (plain_rows d))))
     (same_turn d is by.axes o))
     ∙ value-turn ρ (moved_rows d by.axes) ∙ ap turn (moved_value d is by o entry) ∙ e)
   where

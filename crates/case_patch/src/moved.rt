@@ -68,7 +68,7 @@ fn numbers_among<const D: usize>(
     requires corners { All (λ k. k < 2 ^ D) corners.now }
     requires room { length edges.now + length corners.now ≤ 48 }
     requires few { length to_edges.now + length to_corners.now ≤ 48 }
-    ensures { IfOk result (λ list. AreCarriedAlong D by.now edges.now corners.now to_edges.now to_corners.now list.items) }
+    ensures { IfOk result (λ xs. AreCarriedAlong D by.now edges.now corners.now to_edges.now to_corners.now xs.items) }
 {
     let mut list = Vec::new(alloc);
     for point in 0..edges.len() + corners.len() {

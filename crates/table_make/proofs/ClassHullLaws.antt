@@ -9,8 +9,8 @@ use Rattle.iso_model.specs.Entries.{label_points}
 use Rattle.halfspace.specs.Choices.{AreFacetNumbers}
 use Rattle.table_make.specs.ClassHulls.{KnowsHulls}
 
-pub one_more_known : (kind : Kind) (d : ℕ) (places : List (Option ℕ)) (hulls more : List (List ℕ)) (label n : ℕ) (facets : List ℕ)
-    → label < length places → KnowsHulls kind d places hulls
+pub one_more_known : (kind : Kind) (d : ℕ) (places : List (Option ℕ)) (hulls more : List (List ℕ)) (label n : ℕ) (facets : List ℕ) → label < length places
+    → KnowsHulls kind d places hulls
     → AreFacetNumbers d (label_points kind d label) facets → n ≡ length hulls → more ≡ hulls ++ facets ∷ []
     → KnowsHulls kind d (slice_set places label (Some n)) more
 one_more_known kind d places hulls more label n facets inside knows are count e = record { each = λ m place at. by_place m place (cases_eq m label) at }

@@ -34,7 +34,7 @@ fn add_entry<const D: usize>(
 
 // The entry of each labelling, from label 0 on, from a hull of its own.
 fn entries_alone<C: Cell<D>, const D: usize>(alloc: Global) -> Result<Vec<Vec<[u8; D]>>, Memory>
-    ensures { IfOk result (λ entries. AreHullEntries C.KIND D (2 ^ C.CORNERS) (map (λ entry. entry.items) entries.items)) }
+    ensures { IfOk result (λ entries. AreHullEntries C.KIND D (2 ^ C.CORNERS) (map (λ e. e.items) entries.items)) }
 {
     let mut entries = Vec::new(alloc);
     for label in 0..labels::<C, D>() {
@@ -49,7 +49,7 @@ fn entries_by_classes<C: Cell<D>, const D: usize>(
     alloc: Global,
 ) -> Result<Vec<Vec<[u8; D]>>, Memory>
     requires { C.KIND ≡ Kind.Cube }
-    ensures { IfOk result (λ entries. AreHullEntries C.KIND D (2 ^ C.CORNERS) (map (λ entry. entry.items) entries.items)) }
+    ensures { IfOk result (λ entries. AreHullEntries C.KIND D (2 ^ C.CORNERS) (map (λ e. e.items) entries.items)) }
 {
     let mut places = no_places(alloc, labels::<C, D>())?;
     let mut hulls = Vec::new(alloc);
@@ -67,7 +67,7 @@ fn entries_by_classes<C: Cell<D>, const D: usize>(
 pub(crate) fn hull_entries<C: Cell<D>, const D: usize>(
     alloc: Global,
 ) -> Result<Vec<Vec<[u8; D]>>, Memory>
-    ensures { IfOk result (λ entries. AreHullEntries C.KIND D (2 ^ C.CORNERS) (map (λ entry. entry.items) entries.items)) }
+    ensures { IfOk result (λ entries. AreHullEntries C.KIND D (2 ^ C.CORNERS) (map (λ e. e.items) entries.items)) }
 {
     match C::KIND {
         Kind::Cube => entries_by_classes::<C, D>(alloc),

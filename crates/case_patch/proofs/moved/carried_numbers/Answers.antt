@@ -13,8 +13,13 @@ use Rattle.case_patch.proofs.moved.carried_numbers.Goals as goal
 
 pub move_label-other-requires : goal.move_label-other-requires
 move_label-other-requires g c =
-    let few = few_axes g.row.D g.met.C.Cell.is_dimension in
-    (omega arith, (g.met.C.Cell.is_dimension, (c.requires.is_move, cube_label g.C.Cell.KIND g.row.D g.C.Cell.CORNERS c.args.label c.requires.kind g.met.C.Cell.corners c.requires.label)))
+    let few = few_axes g.row.D g.met.C.Cell.is_dimension in (
+      omega arith,
+      (
+        g.met.C.Cell.is_dimension,
+        (c.requires.is_move, cube_label g.C.Cell.KIND g.row.D g.C.Cell.CORNERS c.args.label c.requires.kind g.met.C.Cell.corners c.requires.label),
+      ),
+    )
 
 pub numbers_among-requires : goal.numbers_among-requires
 numbers_among-requires g c =
@@ -22,7 +27,8 @@ numbers_among-requires g c =
     let edges : c.deref.result.now ≡ label_edges g.C.Cell.KIND g.row.D c.args.label = c.deref.ensures.value ∙ c.in_ok-edges.ensures in
     let corners : c.deref-2.result.now ≡ label_corners g.C.Cell.KIND g.row.D c.args.label = c.deref-2.ensures.value ∙ c.in_ok-corners.ensures in
     let to_edges : c.deref-3.result.now ≡ label_edges g.C.Cell.KIND g.row.D c.move_label-other.result = c.deref-3.ensures.value ∙ c.in_ok-to_edges.ensures in
-    let to_corners : c.deref-4.result.now ≡ label_corners g.C.Cell.KIND g.row.D c.move_label-other.result = c.deref-4.ensures.value ∙ c.in_ok-to_corners.ensures in (
+    let to_corners : c.deref-4.result.now ≡ label_corners g.C.Cell.KIND g.row.D c.move_label-other.result = c.deref-4.ensures.value
+    ∙ c.in_ok-to_corners.ensures in (
       omega arith,
       (
         g.met.C.Cell.is_dimension,
@@ -54,16 +60,27 @@ returns g c =
     let to_corners : c.deref-4.result.now ≡ label_corners Cube g.row.D c.move_label-other.result =
     c.deref-4.ensures.value ∙ c.in_ok-to_corners.ensures ∙ ap (λ (q : Kind). label_corners q g.row.D c.move_label-other.result) c.requires.kind in
     if_ok c.numbers_among.result
-    (λ list. list.items ≡ map (carried_among g.row.D by c.deref.result.now c.deref-2.result.now c.deref-3.result.now c.deref-4.result.now) (numbers (length c.deref.result.now + length c.deref-2.result.now)))
+    (λ list. list.items ≡ map (carried_among g.row.D by c.deref.result.now c.deref-2.result.now c.deref-3.result.now c.deref-4.result.now)
+    (numbers (length c.deref.result.now + length c.deref-2.result.now)))
     (λ list. AreCarriedNumbers g.row.D c.args.by.now.axes c.args.by.now.flips c.args.label list.items)
     (λ list e. record {
       other = c.move_label-other.result;
       carries = c.move_label-other.ensures;
       numbered = e
-          ∙ ap (λ (xs : List ℕ). map (carried_among g.row.D by xs c.deref-2.result.now c.deref-3.result.now c.deref-4.result.now) (numbers (length xs + length c.deref-2.result.now))) edges
-          ∙ ap (λ (xs : List ℕ). map (carried_among g.row.D by (label_edges Cube g.row.D c.args.label) xs c.deref-3.result.now c.deref-4.result.now) (numbers (length (label_edges Cube g.row.D c.args.label) + length xs))) corners
-          ∙ ap (λ (xs : List ℕ). map (carried_among g.row.D by (label_edges Cube g.row.D c.args.label) (label_corners Cube g.row.D c.args.label) xs c.deref-4.result.now) (numbers (length (label_edges Cube g.row.D c.args.label) + length (label_corners Cube g.row.D c.args.label)))) to_edges
-          ∙ ap (λ (xs : List ℕ). map (carried_among g.row.D by (label_edges Cube g.row.D c.args.label) (label_corners Cube g.row.D c.args.label) (label_edges Cube g.row.D c.move_label-other.result) xs) (numbers (length (label_edges Cube g.row.D c.args.label) + length (label_corners Cube g.row.D c.args.label)))) to_corners
-          ∙ ap (λ (n : ℕ). map (carried_among g.row.D by (label_edges Cube g.row.D c.args.label) (label_corners Cube g.row.D c.args.label) (label_edges Cube g.row.D c.move_label-other.result) (label_corners Cube g.row.D c.move_label-other.result)) (numbers n)) (sym (points_length Cube g.row.D c.args.label));
+          ∙ ap (λ (xs : List ℕ). map (carried_among g.row.D by xs c.deref-2.result.now c.deref-3.result.now c.deref-4.result.now)
+          (numbers (length xs + length c.deref-2.result.now))) edges
+          ∙ ap (λ (xs : List ℕ). map (carried_among g.row.D by (label_edges Cube g.row.D c.args.label) xs c.deref-3.result.now c.deref-4.result.now)
+          (numbers (length (label_edges Cube g.row.D c.args.label) + length xs))) corners
+          ∙ ap (λ (xs : List ℕ). map
+          (carried_among g.row.D by (label_edges Cube g.row.D c.args.label) (label_corners Cube g.row.D c.args.label) xs c.deref-4.result.now)
+          (numbers (length (label_edges Cube g.row.D c.args.label) + length (label_corners Cube g.row.D c.args.label)))) to_edges
+          ∙ ap (λ (xs : List ℕ). map
+          (carried_among g.row.D by (label_edges Cube g.row.D c.args.label) (label_corners Cube g.row.D c.args.label)
+          (label_edges Cube g.row.D c.move_label-other.result) xs)
+          (numbers (length (label_edges Cube g.row.D c.args.label) + length (label_corners Cube g.row.D c.args.label)))) to_corners
+          ∙ ap (λ (n : ℕ). map
+          (carried_among g.row.D by (label_edges Cube g.row.D c.args.label) (label_corners Cube g.row.D c.args.label)
+          (label_edges Cube g.row.D c.move_label-other.result) (label_corners Cube g.row.D c.move_label-other.result)) (numbers n))
+          (sym (points_length Cube g.row.D c.args.label));
     })
     c.numbers_among.ensures

@@ -2,6 +2,7 @@ use Rattle.std.proofs.Common.{◌≡◌, ◌∙◌, ap, sym, subst, map, length,
 use Rattle.std.proofs.lemmas.List.FromFn.{length-map-range_with_len}
 use Rattle.iso_model.specs.declared.Kind.{Kind}
 use Rattle.iso_model.specs.declared.Kind.TheVariants.{Cube}
+use Rattle.iso_model.specs.Orders.{numbers}
 use Rattle.iso_model.specs.Cells.{HasDimension}
 use Rattle.iso_model.specs.Entries.{label_points}
 use Rattle.iso_model.specs.Moves.{Move}
@@ -14,7 +15,6 @@ use Rattle.case_patch.proofs.CarriedFacets.{class_facets, numbers_small}
 use Rattle.case_patch.proofs.CubeLabels.{cube_label}
 use Rattle.case_patch.proofs.LabelPoints.{few_points, points_length}
 use Rattle.case_patch.proofs.Narrow.{bytes_fit}
-use Rattle.lists.specs.Orders.{numbers}
 use Rattle.case_patch.proofs.patches.patch_moved.Goals as goal
 
 pub carried_sets-requires-clause-members : goal.carried_sets-requires-clause-members
@@ -32,12 +32,10 @@ pub carried_sets-requires-clause-few : goal.carried_sets-requires-clause-few
 carried_sets-requires-clause-few g c =
     let by : Move = record { axes = c.args.by.now.axes; flips = c.args.by.now.flips } in
     let has : HasDimension Cube g.row.D = few_axes g.row.D g.met.C.Cell.is_dimension in
-    let list : c.deref.result.now
-    ≡ map (carried_point g.row.D by c.args.label c.in_ok-numbers.ensures.other) (numbers (length (label_points Cube g.row.D c.args.label))) =
+    let list : c.deref.result.now ≡ map (carried_point g.row.D by c.args.label c.in_ok-numbers.ensures.other)
+    (numbers (length (label_points Cube g.row.D c.args.label))) =
     c.deref.ensures.value ∙ c.in_ok-numbers.ensures.numbered in
-    let long =
-    ap length list
-    ∙ length-map-range_with_len (carried_point g.row.D by c.args.label c.in_ok-numbers.ensures.other) 0
+    let long = ap length list ∙ length-map-range_with_len (carried_point g.row.D by c.args.label c.in_ok-numbers.ensures.other) 0
     (length (label_points Cube g.row.D c.args.label)) in
     omega (arith, long, points_length Cube g.row.D c.args.label, few_points Cube g.row.D c.args.label has)
 

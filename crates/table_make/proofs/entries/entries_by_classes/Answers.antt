@@ -30,9 +30,8 @@ patch_moved-requires g c =
             (
               least.is_move,
               λ other carries. subst (λ (m : ℕ). AreFacetNumbers g.row.D (label_points g.C.Cell.KIND g.row.D m) c.deref.result.now)
-                  (carried_once g.row.D by (undone g.row.D by) (undone_is g.row.D is by least.is_move) c.loop-label.label c.least_label-class.result.0
-                  other least.carries carries)
-                  class,
+                  (carried_once g.row.D by (undone g.row.D by) (undone_is g.row.D is by least.is_move) c.loop-label.label c.least_label-class.result.0 other
+                  least.carries carries) class,
             ),
           ),
         ),
@@ -41,8 +40,7 @@ patch_moved-requires g c =
 
 pub loop-label-preserved : goal.loop-label-preserved
 loop-label-preserved g c = record {
-  entries =
-      one_more_entry g.C.Cell.KIND g.row.D c.loop-label.label (map (λ entry. entry.items) c.loop-label.entries.items)
+  entries = one_more_entry g.C.Cell.KIND g.row.D c.loop-label.label (map (λ entry. entry.items) c.loop-label.entries.items)
       (map (λ entry. entry.items) c.add_entry.new.entries.items) c.in_ok-entry.entry.items
       c.loop-label.invariant.entries c.in_ok-entry.ensures c.in_ok-add_entry.ensures;
   room = c.in_ok-place.ensures.room ∙ c.loop-label.invariant.room;
