@@ -20,8 +20,7 @@ dot-minus_left (x ∷ xs) (y ∷ ys) (z ∷ zs) e =
     ap (λ (v : ℤ). (x -ℤ y) *ℤ z +ℤ v) (dot-minus_left xs ys zs (omega arith)) ∙ minus_step x y z (dot xs zs) (dot ys zs)
 
 slack_step : (p q b c m n : ℤ) → (p *ℤ b -ℤ q *ℤ c) -ℤ (p *ℤ m -ℤ q *ℤ n) ≡ p *ℤ (b -ℤ m) -ℤ q *ℤ (c -ℤ n)
-slack_step p q b c m n =
-    ring (p ∷ q ∷ b ∷ c ∷ m ∷ n ∷ []) ((var 0 ⊗ var 2 ⊖ var 1 ⊗ var 3) ⊖ (var 0 ⊗ var 4 ⊖ var 1 ⊗ var 5))
+slack_step p q b c m n = ring (p ∷ q ∷ b ∷ c ∷ m ∷ n ∷ []) ((var 0 ⊗ var 2 ⊖ var 1 ⊗ var 3) ⊖ (var 0 ⊗ var 4 ⊖ var 1 ⊗ var 5))
     (var 0 ⊗ (var 2 ⊖ var 4) ⊖ var 1 ⊗ (var 3 ⊖ var 5)) refl
 
 scaled_lengths : (p q : ℤ) (h g : HalfSpace) → length h.normal ≡ length g.normal → length (map (λ x. p *ℤ x) h.normal) ≡ length (map (λ x. q *ℤ x) g.normal)

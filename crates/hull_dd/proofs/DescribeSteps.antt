@@ -7,9 +7,9 @@ use Rattle.iso_model.specs.Turns.{HalfSpace, slack, Holds, IsTight}
 use Rattle.hull_dd.specs.declared.generators.Generator.{Generator}
 use Rattle.hull_dd.specs.Generators.{point_at, OfSet, combined, half_of, with_point, IsGenerator, IsCoveredBy, Generate}
 use Rattle.hull_dd.specs.Steps.{AreWithin, HasInside, IsWithinSome}
-use Rattle.hull_dd.proofs.GeneratorBits.{point_added, member_stays, member_split, in_both, within_bit}
-use Rattle.hull_dd.proofs.Towards.{TakenOff, taken_off, Toward, toward, above_or_not}
-use Rattle.small_turn.proofs.SpanLaws.{is_zero}
+use Rattle.hull_dd.proofs.Bits.{point_added, member_stays, member_split, in_both, within_bit}
+use Rattle.hull_dd.proofs.Towards.{TakenOff, taken_off, Toward, toward}
+use Rattle.hull_dd.proofs.Signs.{zero_or_not, above_or_not}
 
 -- ---- signs
 
@@ -69,7 +69,7 @@ next_generate d points set gs next i inside gen ones within stay = record {
 
     covered : (h : HalfSpace) → length h.normal ≡ d → OfSet points (with_point set i) (Holds h) → ¬ (OfSet points (with_point set i) (IsTight h))
         → Any (IsCoveredBy points (with_point set i) h) next
-    covered h wide all loose = by_slack (is_zero (slack h x))
+    covered h wide all loose = by_slack (zero_or_not (slack h x))
       where
         holds : OfSet points set (Holds h)
         holds j l b = all j l (member_stays set i j b)
@@ -110,7 +110,7 @@ next_generate d points set gs next i inside gen ones within stay = record {
         ])
 
         at_zero : slack h x ≡ pos 0 → Any (IsCoveredBy points set h) gs → Any (IsCoveredBy points (with_point set i) h) next
-        at_zero z a = by_side (is_zero (slack (half_of g) x)) (above_or_not (slack (half_of g) x))
+        at_zero z a = by_side (zero_or_not (slack (half_of g) x)) (above_or_not (slack (half_of g) x))
           where
             g : Generator d
             g = a.1
@@ -136,15 +136,12 @@ next_generate d points set gs next i inside gen ones within stay = record {
             by_side (inr n) (inr s) =
                 let t = toward d points set gs gen i inside (pos 1) less off.wide off.holds
                 (less_inside off.times off.off (slack h x) (slack (half_of g) x) (slack less x) off.off_above (off.slacks x) z
-                (not_above (slack (half_of g) x) n s))
-                in
+                (not_above (slack (half_of g) x) n s)) in
                 by_set (bit_and t.generator.tight g.tight)
                 (λ j l b e. in_both t.generator.tight g.tight j (t.covers j l b (off.keeps j l b e)) (a.4 j l b e))
                 (within.meets t.generator t.there (above_one (slack (half_of t.generator) x) t.side) g there (not_above (slack (half_of g) x) n s))
 
         by_slack : (slack h x ≡ pos 0) ⊎ (slack h x ≢ pos 0) → Any (IsCoveredBy points (with_point set i) h) next
         by_slack (inl z) = at_zero z (gen.enough h wide holds (not_all z))
-        by_slack (inr n) =
-            by_inside n
-            (toward d points set gs gen i inside (pos 1) h wide holds
+        by_slack (inr n) = by_inside n (toward d points set gs gen i inside (pos 1) h wide holds
             (one_above (slack h x) (held_above (slack h x) (all i inside (point_added set i)) n)))

@@ -4,22 +4,18 @@ use Rattle.std.specs.Int.{bit_at}
 use Rattle.std.proofs.Common.{sym, ap, ◌∙◌, subst, arith, inl, inr}
 use Rattle.std.proofs.lemmas.List.Elements.{All-contains, All-weaker}
 use Rattle.std.proofs.lemmas.Nat.Bits.{shr_and_one, bit_at-lt}
+use Rattle.iso_model.specs.Orders.{has}
 use Rattle.iso_model.specs.Turns.{HalfSpace, slack, IsTight, same_int}
-use Rattle.iso_model.specs.Hulls.{IsFacet}
+use Rattle.iso_model.specs.Hulls.{IsFacet, set_number}
 use Rattle.halfspace.specs.Choices.{AreSomeFacets}
 use Rattle.halfspace.proofs.Bases.{chosen_wide}
+use Rattle.halfspace.proofs.SetNumbers.{has_passes, same_int-is}
+use Rattle.halfspace.proofs.SlackLaws.{default_same}
+use Rattle.halfspace.proofs.Steps.{tried_known}
 use Rattle.hull_dd.specs.declared.generators.Generator.{Generator}
 use Rattle.hull_dd.specs.Generators.{point_at, IsCoveredBy, Generate, GenerateAll, with_point}
 use Rattle.hull_dd.specs.Steps.{IsWithinAny, AreWithinAny}
-use Rattle.hull_dd.proofs.GeneratorBits.{point_added, member_stays, within_bit}
-use Rattle.lists.specs.Orders.{has}
-use Rattle.lists.specs.Bits.{set_number}
-use Rattle.halfspace.proofs.TightNumbers.{has_passes}
-use Rattle.iso_model.proofs.PointLaws.{same_int-is}
-use Rattle.lists.proofs.Contained.{any_default}
-use Rattle.halfspace.proofs.FacetSteps.{tried_known}
-use Rattle.lists.proofs.Bits.{shifted_one}
-use Rattle.std.proofs.lemmas.Bool.{cases_eq}
+use Rattle.hull_dd.proofs.Bits.{same_or_not, shifted_one, point_added, member_stays, within_bit}
 
 -- ---- a facet is found
 
@@ -30,17 +26,16 @@ record IsTightMember (points : List (List ℤ)) (h : HalfSpace) (i : ℕ) : Type
 
 tight_member : (d : ℕ) (points : List (List ℤ)) (set : List ℕ) (f : IsFacet d points set) (i : ℕ) → IsTrue (has set i) → IsTightMember points f.half i
 tight_member d points set f i h =
-    let p =
-    has_passes (λ j. same_int (slack f.half (slice_index_or points j [])) (pos 0)) (length points) i
+    let p = has_passes (λ j. same_int (slack f.half (slice_index_or points j [])) (pos 0)) (length points) i
     (subst (λ (s : List ℕ). IsTrue (has s i)) f.tight h) in
     record { below = p.below; tight = same_int-is (slack f.half (point_at points i)) (pos 0) p.passes }
 
-pub facet_found : (d : ℕ) → 2 ≤ d → d ≤ 4 → (points : List (List ℤ)) → All (λ p. length p ≡ d) points → (gs : List (Generator d))
-    → GenerateAll d points gs → (found : List ℕ) → AreSomeFacets d points found
+pub facet_found : (d : ℕ) → 2 ≤ d → d ≤ 4 → (points : List (List ℤ)) → All (λ p. length p ≡ d) points → (gs : List (Generator d)) → GenerateAll d points gs
+    → (found : List ℕ) → AreSomeFacets d points found
     → AreWithinAny gs found → (set : List ℕ) → IsFacet d points set → Contains found (set_number set)
 facet_found d least greatest points wide gs all found some within set f =
-    tried_known d least greatest points f.basis found f.full (chosen_wide d points wide f.basis inside) some (w.0, w.1, w.2, w.3, on_facet) set f
-    f.within f.spans
+    tried_known d least greatest points f.basis found f.full (chosen_wide d points wide f.basis inside) some (w.0, w.1, w.2, w.3, on_facet) set f f.within
+    f.spans
   where
     gen : Generate d points all.set gs
     gen = all.generate
@@ -76,7 +71,7 @@ pub set_with : (set i after : ℕ) → i < 48 → after ≡ bit_or set (1 * 2 ^ 
 set_with set i after few e = e ∙ ap (bit_or set) (shifted_one i (omega arith))
 
 pub before_more : (set i : ℕ) → ((j : ℕ) → j < i → bit_at set j ≡ 1) → bit_at set i ≡ 1 → (j : ℕ) → j < i + 1 → bit_at set j ≡ 1
-before_more set i h here j l = elim (cases_eq j i) [
+before_more set i h here j l = elim (same_or_not j i) [
   | inl s ↦ subst (λ (k : ℕ). bit_at set k ≡ 1) (sym s) here
   | inr n ↦ h j (omega arith)
 ]
@@ -95,9 +90,8 @@ WithinBelow {d} gs found n = (k : ℕ) (e : Generator d) → k < n → IsWithinA
 pub within_more : (d : ℕ) (gs : List (Generator d)) (old new : List ℕ) (n : ℕ) (g : Generator d) → n < length gs → g ≡ slice_index_or gs n g
     → All (Contains new) old → IsWithinAny g.tight new
     → WithinBelow gs old n → WithinBelow gs new (n + 1)
-within_more d gs old new n g l s kept w h k e b = elim (cases_eq k n) [
-  | inl z ↦
-      subst (λ (j : ℕ). IsWithinAny (slice_index_or gs j e).tight new) (sym z)
-      (subst (λ (x : Generator d). IsWithinAny x.tight new) (s ∙ any_default gs n g e l) w)
+within_more d gs old new n g l s kept w h k e b = elim (same_or_not k n) [
+  | inl z ↦ subst (λ (j : ℕ). IsWithinAny (slice_index_or gs j e).tight new) (sym z) (subst (λ (x : Generator d). IsWithinAny x.tight new)
+      (s ∙ default_same gs n g e l) w)
   | inr z ↦ within_kept (slice_index_or gs k e).tight old new kept (h k e (omega arith))
 ]

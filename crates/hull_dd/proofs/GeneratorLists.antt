@@ -6,16 +6,15 @@ use Rattle.std.proofs.lemmas.List.{take_more}
 use Rattle.std.proofs.lemmas.List.Elements.{Contains-push, Contains-append_left}
 use Rattle.hull_dd.specs.Generators.{with_point}
 use Rattle.hull_dd.specs.Starts.{IsSetOf}
-use Rattle.hull_dd.proofs.GeneratorBits.{point_added, member_stays, member_split}
-use Rattle.lists.proofs.Bits.{shifted_one}
+use Rattle.hull_dd.proofs.Bits.{shifted_one, point_added, member_stays, member_split}
 
 -- a member of a list with one more at the end is that one or a member of the list
 pub Contains-pushed : {X : Type 0} (xs : List X) (x y : X) → Contains (xs ++ x ∷ []) y → (y ≡ x) ⊎ Contains xs y
 Contains-pushed [] x y (zero, l, e) = inl (sym e)
 Contains-pushed [] x y (suc k, l, e) = absurd (omega arith)
 Contains-pushed (z ∷ zs) x y (zero, l, e) = inr (0, omega arith, e)
-Contains-pushed (z ∷ zs) x y (suc k, l, e) =
-    elim (Contains-pushed zs x y (k, omega arith, e)) [ inl s ↦ inl s | inr c ↦ inr (suc c.0, omega (arith, c.1), c.2) ]
+Contains-pushed (z ∷ zs) x y (suc k, l, e) = elim (Contains-pushed zs x y (k, omega arith, e))
+    [ inl s ↦ inl s | inr c ↦ inr (suc c.0, omega (arith, c.1), c.2) ]
 
 -- the set of the first points, with one point more, as the code sets its bit
 pub set_more : (choice : List ℕ) (i set : ℕ) → i < length choice → slice_index_or choice i 0 < 48 → IsSetOf (take i choice) set

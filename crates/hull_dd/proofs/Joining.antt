@@ -1,6 +1,5 @@
 -- What joins two generators on opposite sides of a point is a generator of the set with that point.
-use Rattle.std.specs.Prelude.{◌≡◌, ℕ, zero, suc, ◌*◌, ◌%◌, ◌^◌, ◌<◌, ◌≤◌, ℤ, pos, negsuc, nat_abs, ◌-ℤ◌, ◌*ℤ◌, ◌≤ℤ◌, ◌<ℤ◌, bit_and, bit_or, List, []}
-use Rattle.std.specs.Prelude.{◌∷◌, map, length}
+use Rattle.std.specs.Prelude.{◌≡◌, ℕ, zero, suc, ◌*◌, ◌%◌, ◌^◌, ◌<◌, ◌≤◌, ℤ, pos, negsuc, nat_abs, ◌-ℤ◌, ◌*ℤ◌, ◌≤ℤ◌, ◌<ℤ◌, bit_and, bit_or, List, [], ◌∷◌, map, length}
 use Rattle.std.specs.Int.{bit_at}
 use Rattle.std.proofs.Common.{refl, sym, ap, ◌∙◌, subst, arith, inl, inr, lit<, to_z, of_z, w64}
 use Rattle.std.proofs.lemmas.Int.{ints, unsigned_abs-mul}
@@ -14,10 +13,8 @@ use Rattle.halfspace.specs.Divisors.{IsReduced}
 use Rattle.hull_dd.specs.declared.generators.Generator.{Generator}
 use Rattle.hull_dd.specs.Generators.{point_at, OfSet, combined, half_of, with_point, HasSmallNumbers, IsGenerator}
 use Rattle.hull_dd.specs.Steps.{IsJoined}
-use Rattle.hull_dd.proofs.GeneratorBits.{point_added, member_stays, member_split, in_both, in_first, in_second}
+use Rattle.hull_dd.proofs.Bits.{same_or_not, shifted_one, point_added, member_stays, member_split, in_both, in_first, in_second}
 use Rattle.hull_dd.proofs.Combinations.{combined-slack, combined-wide}
-use Rattle.lists.proofs.Bits.{shifted_one}
-use Rattle.std.proofs.lemmas.Bool.{cases_eq}
 
 -- ---- signs of the slack
 
@@ -110,14 +107,12 @@ joined_is d i inside above outside below new few reduced small set_is points set
     tight_is = set_is ∙ ap (bit_or (bit_and inside.tight outside.tight)) (shifted_one i (omega arith))
 
     wide : length new.half.normal ≡ d
-    wide =
-        sym (ap length reduced.coefficients ∙ length-map new.half.normal (λ x. pos reduced.divisor *ℤ x))
-        ∙ combined-wide above (half_of outside) below (half_of inside) d other.wide one.wide
+    wide = sym (ap length reduced.coefficients ∙ length-map new.half.normal (λ x. pos reduced.divisor *ℤ x)) ∙ combined-wide above (half_of outside) below
+        (half_of inside) d other.wide one.wide
 
     -- where the new one is tight at each of the points, so is the one that has the point inside
     both_tight : OfSet points set (IsTight (half_of new)) → OfSet points set (IsTight (half_of inside))
-    both_tight t j k m =
-        first_zero above below (si j) (so j) a b (one.holds j k m) (other.holds j k m)
+    both_tight t j k m = first_zero above below (si j) (so j) a b (one.holds j k m) (other.holds j k m)
         (times_zero (pos reduced.divisor) (sn j) (above *ℤ so j -ℤ below *ℤ si j) (slack_is j) (t j k m))
 
     by_divisor : (g : ℕ) → reduced.divisor ≡ g → IsGenerator d points (with_point set i) new
@@ -128,9 +123,8 @@ joined_is d i inside above outside below new few reduced small set_is points set
       small = small;
       holds = λ j k m. elim (member_split set i j m) [
         | inl s ↦ subst (λ (v : ℤ). pos 0 ≤ℤ v) (sym (at_point j s)) (omega (arith, ints))
-        | inr n ↦
-            divided_holds g (sn j) (above *ℤ so j -ℤ below *ℤ si j) (value j)
-            (sum_holds above below (si j) (so j) a b (one.holds j k n) (other.holds j k n))
+        | inr n ↦ divided_holds g (sn j) (above *ℤ so j -ℤ below *ℤ si j) (value j) (sum_holds above below (si j) (so j) a b (one.holds j k n)
+            (other.holds j k n))
       ];
       within = λ j t. elim (member_split (bit_and inside.tight outside.tight) i j (subst (λ (w : ℕ). bit_at w j ≡ 1) tight_is t)) [
         | inl s ↦ subst (λ (w : ℕ). bit_at (with_point set i) w ≡ 1) (sym s) (point_added set i)
@@ -145,8 +139,8 @@ joined_is d i inside above outside below new few reduced small set_is points set
 
         at_point : (j : ℕ) → j ≡ i → sn j ≡ pos 0
         at_point j s = divided_zero g (sn j) (above *ℤ so j -ℤ below *ℤ si j) (value j)
-            (ap (λ (k : ℕ). above *ℤ so k -ℤ below *ℤ si k) s ∙ ap (λ (v : ℤ). above *ℤ v -ℤ below *ℤ si i) (sym f)
-            ∙ ap (λ (v : ℤ). above *ℤ below -ℤ below *ℤ v) (sym e) ∙ crossed above below)
+            (ap (λ (k : ℕ). above *ℤ so k -ℤ below *ℤ si k) s ∙ ap (λ (v : ℤ). above *ℤ v -ℤ below *ℤ si i) (sym f) ∙ ap
+            (λ (v : ℤ). above *ℤ below -ℤ below *ℤ v) (sym e) ∙ crossed above below)
 
         forth : (j : ℕ) → j < length points → bit_at (with_point set i) j ≡ 1 → bit_at new.tight j ≡ 1 → IsTight (half_of new) (point_at points j)
         forth j k m t = elim (member_split set i j m) [
@@ -161,8 +155,7 @@ joined_is d i inside above outside below new few reduced small set_is points set
 
         back : (j : ℕ) → j < length points → bit_at (with_point set i) j ≡ 1 → IsTight (half_of new) (point_at points j) → bit_at new.tight j ≡ 1
         back j k m t = subst (λ (w : ℕ). bit_at w j ≡ 1) (sym tight_is) (elim (member_split set i j m) [
-          | inl s ↦
-              subst (λ (w : ℕ). bit_at (with_point (bit_and inside.tight outside.tight) i) w ≡ 1) (sym s)
+          | inl s ↦ subst (λ (w : ℕ). bit_at (with_point (bit_and inside.tight outside.tight) i) w ≡ 1) (sym s)
               (point_added (bit_and inside.tight outside.tight) i)
           | inr n ↦ (
               let r = times_zero (pos (suc g)) (sn j) (above *ℤ so j -ℤ below *ℤ si j) (value j) t in
@@ -179,13 +172,13 @@ product_grows zero n m h z = absurd (z refl)
 product_grows (suc d) n m h z = omega arith
 
 pub reduced_small : (n : List ℤ) (b : ℤ) (m : List ℤ) (c : ℤ) → IsReduced n b m c → IsSmall (2 ^ 62) b → IsSmall (2 ^ 62) c
-reduced_small n b m c r s = elim (cases_eq r.divisor 0) [
+reduced_small n b m c r s = elim (same_or_not r.divisor 0) [
   | inl z ↦ subst (λ (v : ℤ). IsSmall (2 ^ 62) v) (sym (r.stays z).1) s
   | inr z ↦ product_grows r.divisor (nat_abs c) (2 ^ 62) (let e = ap nat_abs r.constant ∙ unsigned_abs-mul (pos r.divisor) c in omega arith) z
 ]
 
-pub bound_small : (n : List ℤ) (b : ℤ) (m : List ℤ) (c : ℤ) (size : ℕ) → IsReduced n b m c → IsSmall (2 ^ 62) b
-    → size ≡ nat_abs (to_z w64 (of_z w64 c)) → size ≤ 2 ^ 28 → IsSmall (2 ^ 28) c
+pub bound_small : (n : List ℤ) (b : ℤ) (m : List ℤ) (c : ℤ) (size : ℕ) → IsReduced n b m c → IsSmall (2 ^ 62) b → size ≡ nat_abs (to_z w64 (of_z w64 c))
+    → size ≤ 2 ^ 28 → IsSmall (2 ^ 28) c
 bound_small n b m c size r s e l =
     let back = small-back (2 ^ 62) c (lit< tt) (reduced_small n b m c r s) in
     let same : size ≡ nat_abs c = e ∙ ap nat_abs back in

@@ -1,6 +1,5 @@
 -- The half-space through D points with a further one off it: no half-space with a normal is tight at all of these.
-use Rattle.std.specs.Prelude.{◌≡◌, ◌≢◌, ◌⊎◌, ℕ, zero, suc, ◌+◌, ◌<◌, ◌≤◌, ℤ, pos, negsuc, neg_ℤ, ◌^◌, ◌-ℤ◌, ◌*ℤ◌, ◌≤ℤ◌, ◌<ℤ◌, List, [], ◌∷◌, map}
-use Rattle.std.specs.Prelude.{length, slice_index_or, All}
+use Rattle.std.specs.Prelude.{◌≡◌, ◌≢◌, ◌⊎◌, ℕ, zero, suc, ◌+◌, ◌<◌, ◌≤◌, ℤ, pos, negsuc, neg_ℤ, ◌^◌, ◌-ℤ◌, ◌*ℤ◌, ◌≤ℤ◌, ◌<ℤ◌, List, [], ◌∷◌, map, length, slice_index_or, All}
 use Rattle.std.proofs.Common.{refl, sym, ap, ◌∙◌, subst, arith, inl, inr}
 use Rattle.std.proofs.lemmas.Int.{ints}
 use Rattle.std.proofs.lemmas.List.Elements.{All-nil, All-cons, All-head, All-tail}
@@ -13,22 +12,25 @@ use Rattle.iso_model.specs.Hulls.{members}
 use Rattle.small_turn.proofs.Planes.{turn_laws, AreWide, AreTight, SamePlane, tight_same, hyper-turn}
 use Rattle.halfspace.proofs.Bases.{length-members, chosen_wide}
 use Rattle.halfspace.proofs.FacetFound.{own_tight}
+use Rattle.halfspace.proofs.Steps.{normal_wide}
+use Rattle.halfspace.proofs.SlackLaws.{default_same}
 use Rattle.small_turn.specs.declared.HalfSpace.{HalfSpace as SmallHalfSpace}
 use Rattle.hull_dd.specs.declared.generators.Generator.{Generator}
 use Rattle.hull_dd.specs.Generators.{point_at, combined, plain, half_of, HasSmallNumbers}
 use Rattle.hull_dd.specs.Starts.{IsTightAt, IsSetOf, IsOpposite}
 use Rattle.hull_dd.proofs.Combinations.{combined-slack, combined-wide}
 use Rattle.hull_dd.proofs.Products.{scaled_at}
-use Rattle.hull_dd.proofs.Towards.{above_or_not}
-use Rattle.halfspace.proofs.FacetSteps.{normal_wide}
-use Rattle.lists.proofs.Contained.{any_default}
+use Rattle.hull_dd.proofs.Signs.{above_or_not}
 
 -- ---- tight at the chosen points, by the list
 
 pub tight_list : (points : List (List ℤ)) (choice : List ℕ) (h : HalfSpace) → IsTightAt points choice h → AreTight h (members points choice)
 tight_list points [] h t = tt
-tight_list points (i ∷ is) h t =
-    (All-head (λ j. IsTight h (point_at points j)) i is t, tight_list points is h (All-tail (λ j. IsTight h (point_at points j)) i is t))
+tight_list points (i ∷ is) h t = (
+  All-head (λ j. IsTight h (point_at points j)) i is t,
+  tight_list points is h
+      (All-tail (λ j. IsTight h (point_at points j)) i is t),
+)
 
 pub tight_each : (points : List (List ℤ)) (choice : List ℕ) (h : HalfSpace) → AreTight h (members points choice) → IsTightAt points choice h
 tight_each points [] h t = All-nil (λ j. IsTight h (point_at points j))
@@ -52,7 +54,7 @@ pub record IsNone (h : HalfSpace) : Type 0 where
 none_by_plane : (d : ℕ) (f q : ℤ) (h g : HalfSpace) → SamePlane d f q h g → f ≢ pos 0 → q ≡ pos 0 → IsNone h
 none_by_plane d f q h g plane n z = record {
   flat = λ a. a.4 (mul-eq-zero f a.1
-      (ap (λ (c : ℤ). f *ℤ c) (sym a.3 ∙ any_default h.normal a.0 a.1 (pos 0) a.2) ∙ sym (scaled_at f h.normal a.0 a.2)
+      (ap (λ (c : ℤ). f *ℤ c) (sym a.3 ∙ default_same h.normal a.0 a.1 (pos 0) a.2) ∙ sym (scaled_at f h.normal a.0 a.2)
       ∙ ap (λ (xs : List ℤ). slice_index_or xs a.0 (pos 0)) (plane.normals ∙ ap (λ (c : ℤ). map (λ x. c *ℤ x) g.normal) z)
       ∙ zero_scaled g.normal a.0) n);
   full = λ x. mul-eq-zero f (slack h x) (plane.slacks x ∙ ap (λ (c : ℤ). c *ℤ slack g x) z ∙ mul-zero_left (slack g x)) n;
@@ -65,13 +67,11 @@ pub tight_at_all : (d : ℕ) → 2 ≤ d → d ≤ 4 → (points : List (List �
 tight_at_all d least greatest points wide [] e inside apart l off h w t a = absurd (omega arith)
 tight_at_all d least greatest points wide (i ∷ is) e inside apart l off h w t a =
     none_by_plane d (turn (rows_to (p ∷ ps) x)) (dot h.normal (minus x p)) h (hyper (p ∷ ps)) plane
-    (λ z.
-    off
-    (negative_slack (dot (hyper (p ∷ ps)).normal x) (hyper (p ∷ ps)).bound
-    (hyper-turn d (turn_laws d least greatest) p ps x one_less all_wide.0 all_wide.1 x_wide ∙ z)))
+    (λ z. off (negative_slack (dot (hyper (p ∷ ps)).normal x) (hyper (p ∷ ps)).bound (hyper-turn d (turn_laws d least greatest) p ps x one_less all_wide.0
+    all_wide.1 x_wide ∙ z)))
     (mul-eq-zero (slack (hyper (p ∷ ps)) x) (dot h.normal (minus x p))
-    (mul-comm (slack (hyper (p ∷ ps)) x) (dot h.normal (minus x p)) ∙ sym (plane.slacks x) ∙ ap (λ (c : ℤ). turn (rows_to (p ∷ ps) x) *ℤ c) a
-    ∙ mul-comm (turn (rows_to (p ∷ ps) x)) (pos 0) ∙ mul-zero_left (turn (rows_to (p ∷ ps) x)))
+    (mul-comm (slack (hyper (p ∷ ps)) x) (dot h.normal (minus x p)) ∙ sym (plane.slacks x) ∙ ap (λ (c : ℤ). turn (rows_to (p ∷ ps) x) *ℤ c) a ∙ mul-comm
+    (turn (rows_to (p ∷ ps) x)) (pos 0) ∙ mul-zero_left (turn (rows_to (p ∷ ps) x)))
     off)
   where
     p : List ℤ
@@ -103,8 +103,8 @@ tight_at_all d least greatest points wide (i ∷ is) e inside apart l off h w t 
 pub through : (d : ℕ) → 2 ≤ d → d ≤ 4 → (points : List (List ℤ)) → All (λ p. length p ≡ d) points → (choice : List ℕ) → length choice ≡ d
     → All (λ i. i < length points) choice → IsTightAt points choice (hyper (members points choice))
 through d least greatest points wide choice e inside =
-    tight_each points choice (hyper (members points choice))
-    (own_tight d least greatest (members points choice) (length-members points choice ∙ e) (chosen_wide d points wide choice inside))
+    tight_each points choice (hyper (members points choice)) (own_tight d least greatest (members points choice) (length-members points choice ∙ e)
+    (chosen_wide d points wide choice inside))
 
 turned_step : (s : ℤ) → pos 0 *ℤ s -ℤ pos 1 *ℤ s ≡ pos 0 -ℤ s
 turned_step s = ring (s ∷ []) (con (pos 0) ⊗ var 0 ⊖ con (pos 1) ⊗ var 0) (con (pos 0) ⊖ var 0) refl
@@ -117,10 +117,9 @@ turned_zero s t e z = omega (arith, ints)
 
 pub turned-tight : (points : List (List ℤ)) (choice : List ℕ) (h : HalfSpace) → IsTightAt points choice h
     → IsTightAt points choice (combined (pos 0) h (pos 1) h)
-turned-tight points choice h t k d l =
-    turned_zero (slack h (point_at points (slice_index_or choice k d)))
-    (slack (combined (pos 0) h (pos 1) h) (point_at points (slice_index_or choice k d)))
-    (turned-slack h (point_at points (slice_index_or choice k d))) (t k d l)
+turned-tight points choice h t k d l = turned_zero (slack h (point_at points (slice_index_or choice k d)))
+    (slack (combined (pos 0) h (pos 1) h) (point_at points (slice_index_or choice k d))) (turned-slack h (point_at points (slice_index_or choice k d)))
+    (t k d l)
 
 -- ---- the generator
 
@@ -196,8 +195,8 @@ each_negated (x ∷ xs) = let e : pos 0 *ℤ x -ℤ pos 1 *ℤ x ≡ neg_ℤ x =
 
 negated_row_small : (n : ℕ) (xs : List ℤ) → AreSmall n xs → AreSmall n (map neg_ℤ xs)
 negated_row_small n [] h = λ k d l. absurd (omega arith)
-negated_row_small n (x ∷ xs) h =
-    AreSmall-cons n (neg_ℤ x) (map neg_ℤ xs) (small-neg n x (h 0 x (omega arith))) (negated_row_small n xs (λ k d l. h (suc k) d (omega arith)))
+negated_row_small n (x ∷ xs) h = AreSmall-cons n (neg_ℤ x) (map neg_ℤ xs) (small-neg n x (h 0 x (omega arith)))
+    (negated_row_small n xs (λ k d l. h (suc k) d (omega arith)))
 
 pub other_side : (d : ℕ) (points : List (List ℤ)) (choice : List ℕ) (apart : ℕ) (h turned : SmallHalfSpace d) (tight : ℕ)
     → IsThrough d points choice apart h → ¬ (pos 0 <ℤ slack (plain h) (point_at points apart)) → IsSetOf choice tight

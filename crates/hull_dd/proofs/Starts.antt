@@ -1,19 +1,15 @@
 -- The generators that are each tight at all but one of the first points are those of these points.
-use Rattle.std.specs.Prelude.{◌≡◌, ◌≢◌, ◌⊎◌, ℕ, zero, suc, ◌+◌, ◌<◌, ℤ, pos, ◌≤ℤ◌, ◌<ℤ◌, List, [], ◌∷◌, ◌++◌, length, slice_index_or, slice_set, All}
-use Rattle.std.specs.Prelude.{Any, Contains}
+use Rattle.std.specs.Prelude.{◌≡◌, ◌⊎◌, ℕ, zero, suc, ◌+◌, ◌<◌, ℤ, List, [], ◌∷◌, ◌++◌, length, slice_index_or, slice_set, All, Any, Contains}
 use Rattle.std.specs.Int.{bit_at}
 use Rattle.std.proofs.Common.{refl, sym, ap, ◌∙◌, subst, arith, inl, inr, get_or-set_same, get_or-set_other, length-set}
-use Rattle.std.proofs.lemmas.Int.{ints}
 use Rattle.std.proofs.lemmas.List.Elements.{All-nil, All-cons, All-contains, All-push, Contains-push, Contains-append_left}
 use Rattle.iso_model.specs.Turns.{HalfSpace, slack, Holds, IsTight}
+use Rattle.halfspace.proofs.SlackLaws.{default_same}
 use Rattle.hull_dd.specs.declared.generators.Generator.{Generator}
 use Rattle.hull_dd.specs.Generators.{point_at, OfSet, half_of, with_point, IsGenerator, IsCoveredBy, Generate}
 use Rattle.hull_dd.specs.Starts.{IsSetOf, IsTightAt, IsOpposite}
-use Rattle.hull_dd.proofs.GeneratorBits.{point_added, member_stays, member_split}
-use Rattle.lists.proofs.Contained.{any_default}
-use Rattle.std.proofs.lemmas.Bool.{cases_eq}
-use Rattle.hull_dd.proofs.Staying.{above_holds, zero_holds, not_zero}
-use Rattle.small_turn.proofs.SpanLaws.{is_zero}
+use Rattle.hull_dd.proofs.Bits.{same_or_not, point_added, member_stays, member_split}
+use Rattle.hull_dd.proofs.Signs.{zero_or_not, zero_holds, above_holds, above_not_zero}
 
 -- the set has the chosen points and the further one, and no others
 pub record IsWhole (choice : List ℕ) (apart set : ℕ) : Type 0 where
@@ -34,11 +30,11 @@ opposite_generator d points choice apart set g l whole o = record {
   touches = λ j k m. (
     λ t. tight j ((o.set j).0 t),
     λ t. elim (whole.split j m) [
-      | inl s ↦ absurd (not_zero (slack (half_of g) (point_at points apart)) o.above (subst (λ (i : ℕ). IsTight (half_of g) (point_at points i)) s t))
+      | inl s ↦ absurd (above_not_zero (slack (half_of g) (point_at points apart)) o.above (subst (λ (i : ℕ). IsTight (half_of g) (point_at points i)) s t))
       | inr c ↦ (o.set j).1 c
     ],
   );
-  apart = λ t. not_zero (slack (half_of g) (point_at points apart)) o.above (t apart l whole.there);
+  apart = λ t. above_not_zero (slack (half_of g) (point_at points apart)) o.above (t apart l whole.there);
 }
   where
     tight : (j : ℕ) → Contains choice j → IsTight (half_of g) (point_at points j)
@@ -66,25 +62,25 @@ pub whole_other : (choice : List ℕ) (set k : ℕ) → k < length choice → Is
     → IsWhole (slice_set choice k 0) (slice_index_or choice k 0) (with_point set 0)
 whole_other choice set k l h = record {
   split = λ j m. elim (member_split set 0 j m) [
-    | inl s ↦
-        inr (
-          k,
-          omega (arith, length-set choice k 0),
-          sym (any_default (slice_set choice k 0) k 0 j (omega (arith, length-set choice k 0))) ∙ get_or-set_same choice k 0 0 l ∙ sym s,
-        )
+    | inl s ↦ inr (
+      k,
+      omega (arith, length-set choice k 0),
+      sym (default_same (slice_set choice k 0) k 0 j (omega (arith, length-set choice k 0))) ∙
+          get_or-set_same choice k 0 0 l ∙ sym s,
+    )
     | inr n ↦ kept j ((h j).0 n)
   ];
-  chosen = λ j c. elim (cases_eq c.0 k) [
+  chosen = λ j c. elim (same_or_not c.0 k) [
     | inl s ↦ subst (λ (i : ℕ). bit_at (with_point set 0) i ≡ 1)
         (sym (get_or-set_same choice k 0 j l) ∙ ap (λ (i : ℕ). slice_index_or (slice_set choice k 0) i j) (sym s) ∙ c.2) (point_added set 0)
     | inr n ↦ member_stays set 0 j ((h j).1 (c.0, omega (arith, length-set choice k 0, c.1), sym (get_or-set_other choice k c.0 0 j n) ∙ c.2))
   ];
-  there = member_stays set 0 (slice_index_or choice k 0) ((h (slice_index_or choice k 0)).1 (k, l, any_default choice k (slice_index_or choice k 0) 0 l));
+  there = member_stays set 0 (slice_index_or choice k 0) ((h (slice_index_or choice k 0)).1 (k, l, default_same choice k (slice_index_or choice k 0) 0 l));
 }
   where
     kept : (j : ℕ) → Contains choice j → (j ≡ slice_index_or choice k 0) ⊎ Contains (slice_set choice k 0) j
-    kept j c = elim (cases_eq c.0 k) [
-      | inl s ↦ inl (sym c.2 ∙ ap (λ (i : ℕ). slice_index_or choice i j) s ∙ any_default choice k j 0 l)
+    kept j c = elim (same_or_not c.0 k) [
+      | inl s ↦ inl (sym c.2 ∙ ap (λ (i : ℕ). slice_index_or choice i j) s ∙ default_same choice k j 0 l)
       | inr n ↦ inr (c.0, omega (arith, length-set choice k 0, c.1), get_or-set_other choice k c.0 0 j n ∙ c.2)
     ]
 
@@ -97,20 +93,19 @@ pub record HasOpposites (d : ℕ) (points : List (List ℤ)) (choice : List ℕ)
   pub each : (set : ℕ) → IsSetOf choice set → All (IsGenerator d points (with_point set 0)) gs
 
 all_or_some : (h : HalfSpace) (points : List (List ℤ)) (choice : List ℕ) (n : ℕ)
-    → ((k : ℕ) → k < n → IsTight h (point_at points (slice_index_or choice k 0)))
-    ⊎ ((k : ℕ) × (k < n) × ¬ (IsTight h (point_at points (slice_index_or choice k 0))))
+    → ((k : ℕ) → k < n → IsTight h (point_at points (slice_index_or choice k 0))) ⊎ ((k : ℕ) × (k < n) × ¬
+    (IsTight h (point_at points (slice_index_or choice k 0))))
 all_or_some h points choice zero = inl (λ k l. absurd (omega arith))
-all_or_some h points choice (suc n) = next (all_or_some h points choice n) (is_zero (slack h (point_at points (slice_index_or choice n 0))))
+all_or_some h points choice (suc n) = next (all_or_some h points choice n) (zero_or_not (slack h (point_at points (slice_index_or choice n 0))))
   where
-    next :
-        (((k : ℕ) → k < n → IsTight h (point_at points (slice_index_or choice k 0)))
-        ⊎ ((k : ℕ) × (k < n) × ¬ (IsTight h (point_at points (slice_index_or choice k 0)))))
+    next : (((k : ℕ) → k < n → IsTight h (point_at points (slice_index_or choice k 0))) ⊎
+        ((k : ℕ) × (k < n) × ¬ (IsTight h (point_at points (slice_index_or choice k 0)))))
         → (IsTight h (point_at points (slice_index_or choice n 0))) ⊎ ¬ (IsTight h (point_at points (slice_index_or choice n 0)))
-        → ((k : ℕ) → k < suc n → IsTight h (point_at points (slice_index_or choice k 0)))
-        ⊎ ((k : ℕ) × (k < suc n) × ¬ (IsTight h (point_at points (slice_index_or choice k 0))))
+        → ((k : ℕ) → k < suc n → IsTight h (point_at points (slice_index_or choice k 0))) ⊎
+        ((k : ℕ) × (k < suc n) × ¬ (IsTight h (point_at points (slice_index_or choice k 0))))
     next (inr s) t = inr (s.0, omega (arith, s.1), s.2)
     next (inl a) (inr t) = inr (n, omega arith, t)
-    next (inl a) (inl t) = inl (λ k l. elim (cases_eq k n) [
+    next (inl a) (inl t) = inl (λ k l. elim (same_or_not k n) [
       | inl e ↦ subst (λ (i : ℕ). IsTight h (point_at points (slice_index_or choice i 0))) (sym e) t
       | inr m ↦ a k (omega arith)
     ])
@@ -122,22 +117,20 @@ start_generates d points choice set gs is_set o inside some = record {
   each = o.each set is_set;
   flat = λ h w t. o.first.4.flat h w (at_chosen h t) (t 0 some (point_added set 0));
   full = λ h w t j l. o.first.4.full h w (at_chosen h t) (t 0 some (point_added set 0)) (point_at points j);
-  enough = λ h w holds loose. covered h loose (is_zero (slack h (point_at points 0)));
+  enough = λ h w holds loose. covered h loose (zero_or_not (slack h (point_at points 0)));
 }
   where
     at_chosen : (h : HalfSpace) → OfSet points (with_point set 0) (IsTight h) → IsTightAt points choice h
-    at_chosen h t k e l =
-        t (slice_index_or choice k e) (inside k e l)
-        (member_stays set 0 (slice_index_or choice k e)
-        ((is_set (slice_index_or choice k e)).1 (k, l, any_default choice k (slice_index_or choice k e) e l)))
+    at_chosen h t k e l = t (slice_index_or choice k e) (inside k e l) (member_stays set 0 (slice_index_or choice k e)
+        ((is_set (slice_index_or choice k e)).1 (k, l, default_same choice k (slice_index_or choice k e) e l)))
 
     by_others : (h : HalfSpace) → ¬ (OfSet points (with_point set 0) (IsTight h)) → IsTight h (point_at points 0)
-        → ((k : ℕ) → k < length choice → IsTight h (point_at points (slice_index_or choice k 0)))
-        ⊎ ((k : ℕ) × (k < length choice) × ¬ (IsTight h (point_at points (slice_index_or choice k 0))))
+        → ((k : ℕ) → k < length choice → IsTight h (point_at points (slice_index_or choice k 0))) ⊎
+        ((k : ℕ) × (k < length choice) × ¬ (IsTight h (point_at points (slice_index_or choice k 0))))
         → Any (IsCoveredBy points (with_point set 0) h) gs
     by_others h loose z (inl all) = absurd (loose (λ j l m. elim (member_split set 0 j m) [
       | inl s ↦ subst (λ (i : ℕ). IsTight h (point_at points i)) (sym s) z
-      | inr n ↦ (let c = (is_set j).0 n in subst (λ (i : ℕ). IsTight h (point_at points i)) (any_default choice c.0 0 j c.1 ∙ c.2) (all c.0 c.1))
+      | inr n ↦ (let c = (is_set j).0 n in subst (λ (i : ℕ). IsTight h (point_at points i)) (default_same choice c.0 0 j c.1 ∙ c.2) (all c.0 c.1))
     ]))
     by_others h loose z (inr s) =
         let a = o.others s.0 s.1 in (
@@ -163,11 +156,8 @@ pub opposites_first : (d : ℕ) (points : List (List ℤ)) (choice : List ℕ) (
 opposites_first d points choice gs g l o e = subst (HasOpposites d points choice 0) (sym e) (record {
   first = (0, g, omega arith, refl, o);
   others = λ k b. absurd (omega arith);
-  each =
-      λ set h.
-      All-cons (IsGenerator d points (with_point set 0)) g []
-      (opposite_generator d points choice 0 (with_point set 0) g l (whole_first choice set h) o)
-      (All-nil (IsGenerator d points (with_point set 0)));
+  each = λ set h. All-cons (IsGenerator d points (with_point set 0)) g [] (opposite_generator d points choice 0 (with_point set 0) g l
+      (whole_first choice set h) o) (All-nil (IsGenerator d points (with_point set 0)));
 })
 
 any_pushed : {X : Type 0} (P : X → Type 0) (xs : List X) (y : X) → Any P xs → Any P (xs ++ y ∷ [])
@@ -179,7 +169,7 @@ pub opposites_more : (d : ℕ) (points : List (List ℤ)) (choice : List ℕ) (g
     → HasOpposites d points choice (k + 1) after
 opposites_more d points choice gs after k g l inside o h e = subst (HasOpposites d points choice (k + 1)) (sym e) (record {
   first = any_pushed (IsOpposite d points choice 0) gs g h.first;
-  others = λ j b. elim (cases_eq j k) [
+  others = λ j b. elim (same_or_not j k) [
     | inl s ↦ subst (λ (i : ℕ). Any (IsOpposite d points (slice_set choice i 0) (slice_index_or choice i 0)) (gs ++ g ∷ [])) (sym s)
         (let c = Contains-push gs g in (c.0, g, c.1, c.2, o))
     | inr n ↦ any_pushed (IsOpposite d points (slice_set choice j 0) (slice_index_or choice j 0)) gs g (h.others j (omega arith))

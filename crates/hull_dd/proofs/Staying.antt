@@ -1,6 +1,6 @@
--- A generator that is tight at a further point, or has it inside, is a generator of the set with that point; and what a loop over the generators keeps.
-use Rattle.std.specs.Prelude.{◌≡◌, ◌≢◌, ℕ, zero, suc, ◌+◌, ◌*◌, ◌%◌, ◌^◌, ◌<◌, ◌≤◌, ℤ, pos, ◌≤ℤ◌, ◌<ℤ◌, ◌-ℤ◌, bit_or, List, [], ◌∷◌, ◌++◌, map}
-use Rattle.std.specs.Prelude.{length, take, slice_index_or, All, Contains}
+-- A generator that is tight at a further point, or has it inside, is a generator of the set with that point; and what a loop over the
+-- generators keeps.
+use Rattle.std.specs.Prelude.{◌≡◌, ℕ, zero, suc, ◌+◌, ◌*◌, ◌%◌, ◌^◌, ◌<◌, ◌≤◌, ℤ, pos, ◌≤ℤ◌, ◌<ℤ◌, ◌-ℤ◌, bit_or, List, [], ◌∷◌, ◌++◌, map, length, take, slice_index_or, All, Contains}
 use Rattle.std.specs.Int.{bit_at}
 use Rattle.std.specs.Int.Signed.{lt_z, lt_z_yes, lt_z_no}
 use Rattle.std.specs.Prelude.{Bool, true, false, not}
@@ -11,25 +11,15 @@ use Rattle.std.proofs.lemmas.List.{take_more, map-append}
 use Rattle.std.proofs.lemmas.List.Elements.{All-push, Contains-push, Contains-append_left}
 use Rattle.polynomials.specs.Small.{IsSmall, AreSmall}
 use Rattle.polynomials.proofs.SmallLaws.{small-back, small-sub, small-weaken}
+use Rattle.small_turn.proofs.RowLaws.{small-dot}
 use Rattle.iso_model.specs.Turns.{slack, dot, IsTight, Holds}
+use Rattle.halfspace.proofs.SlackLaws.{default_same}
 use Rattle.hull_dd.specs.declared.generators.Generator.{Generator}
 use Rattle.hull_dd.specs.Generators.{point_at, half_of, with_point, kept_with, IsGenerator}
 use Rattle.hull_dd.specs.Steps.{slacks_at, AreMeasured, IsJoined, HasInside, KeepsOnes, KeepsOnesWith}
-use Rattle.hull_dd.proofs.GeneratorBits.{point_added, member_stays, member_split}
+use Rattle.hull_dd.proofs.Bits.{same_or_not, shifted_one, point_added, member_stays, member_split}
+use Rattle.hull_dd.proofs.Signs.{zero_holds, above_holds, above_not_zero}
 use Rattle.hull_dd.proofs.Kept.{All-kept}
-use Rattle.small_turn.proofs.MatrixRows.{small-dot}
-use Rattle.lists.proofs.Contained.{any_default}
-use Rattle.lists.proofs.Bits.{shifted_one}
-use Rattle.std.proofs.lemmas.Bool.{cases_eq}
-
-pub zero_holds : (x : ℤ) → x ≡ pos 0 → pos 0 ≤ℤ x
-zero_holds x e = omega (arith, ints)
-
-pub above_holds : (x : ℤ) → pos 0 <ℤ x → pos 0 ≤ℤ x
-above_holds x h = omega (arith, ints)
-
-pub not_zero : (x : ℤ) → pos 0 <ℤ x → x ≢ pos 0
-not_zero x h e = omega (arith, ints)
 
 -- the generator with one point more in its tight set, as the code sets its bit
 abbrev pub touched : {d : ℕ} → ℕ → Generator d → Generator d
@@ -70,8 +60,8 @@ touched_is d points set i g few one z = record {
     back : (j : ℕ) → bit_at (with_point g.tight i) j ≡ 1 → bit_at (touched i g).tight j ≡ 1
     back j t = subst (λ (w : ℕ). bit_at w j ≡ 1) (sym tight_is) t
 
-pub stays_is : (d : ℕ) (points : List (List ℤ)) (set i : ℕ) (g : Generator d) → IsGenerator d points set g
-    → pos 0 <ℤ slack (half_of g) (point_at points i) → IsGenerator d points (with_point set i) g
+pub stays_is : (d : ℕ) (points : List (List ℤ)) (set i : ℕ) (g : Generator d) → IsGenerator d points set g → pos 0 <ℤ slack (half_of g) (point_at points i)
+    → IsGenerator d points (with_point set i) g
 stays_is d points set i g one h = record {
   wide = one.wide;
   small = one.small;
@@ -83,7 +73,7 @@ stays_is d points set i g one h = record {
   touches = λ j l m. (
     λ t. (one.touches j l (one.within j t)).0 t,
     λ t. elim (member_split set i j m) [
-      | inl s ↦ absurd (not_zero (slack (half_of g) (point_at points i)) h (subst (λ (k : ℕ). IsTight (half_of g) (point_at points k)) s t))
+      | inl s ↦ absurd (above_not_zero (slack (half_of g) (point_at points i)) h (subst (λ (k : ℕ). IsTight (half_of g) (point_at points k)) s t))
       | inr n ↦ (one.touches j l n).1 t
     ],
   );
@@ -98,8 +88,8 @@ slack_at_place d x [] k e h = absurd (omega arith)
 slack_at_place d x (g ∷ gs) zero e h = refl
 slack_at_place d x (g ∷ gs) (suc k) e h = slack_at_place d x gs k e (omega arith)
 
-pub slack_here : (d : ℕ) (x : List ℤ) (gs : List (Generator d)) (slacks : List ℤ) → slacks ≡ slacks_at x gs → (k : ℕ) (g : Generator d)
-    → k < length gs → g ≡ slice_index_or gs k g
+pub slack_here : (d : ℕ) (x : List ℤ) (gs : List (Generator d)) (slacks : List ℤ) → slacks ≡ slacks_at x gs → (k : ℕ) (g : Generator d) → k < length gs
+    → g ≡ slice_index_or gs k g
     → slice_index_or slacks k (pos 0) ≡ slack (half_of g) x
 slack_here d x gs slacks e k g l s =
     ap (λ (xs : List ℤ). slice_index_or xs k (pos 0)) e ∙ slack_at_place d x gs k g l ∙ ap (λ (h : Generator d). slack (half_of h) x) (sym s)
@@ -132,13 +122,13 @@ tested_below slacks k h l p = subst (λ (z : ℤ). z <ℤ pos 0) (slack_back sla
 
 pub not_above : (slacks : List ℤ) (k : ℕ) → AreSmall (2 ^ 32) slacks → k < length slacks
     → lt_z (pos 0) (to_z w64 (of_z w64 (slice_index_or slacks k (pos 0)))) ≡ false → ¬ (pos 0 <ℤ slice_index_or slacks k (pos 0))
-not_above slacks k h l p q =
-    not_less (pos 0) (to_z w64 (of_z w64 (slice_index_or slacks k (pos 0)))) p (subst (λ (z : ℤ). pos 0 <ℤ z) (sym (slack_back slacks k h l)) q)
+not_above slacks k h l p q = not_less (pos 0) (to_z w64 (of_z w64 (slice_index_or slacks k (pos 0)))) p
+    (subst (λ (z : ℤ). pos 0 <ℤ z) (sym (slack_back slacks k h l)) q)
 
 pub not_below : (slacks : List ℤ) (k : ℕ) → AreSmall (2 ^ 32) slacks → k < length slacks
     → lt_z (to_z w64 (of_z w64 (slice_index_or slacks k (pos 0)))) (pos 0) ≡ false → ¬ (slice_index_or slacks k (pos 0) <ℤ pos 0)
-not_below slacks k h l p q =
-    not_less (to_z w64 (of_z w64 (slice_index_or slacks k (pos 0)))) (pos 0) p (subst (λ (z : ℤ). z <ℤ pos 0) (sym (slack_back slacks k h l)) q)
+not_below slacks k h l p q = not_less (to_z w64 (of_z w64 (slice_index_or slacks k (pos 0)))) (pos 0) p
+    (subst (λ (z : ℤ). z <ℤ pos 0) (sym (slack_back slacks k h l)) q)
 
 pub not_zero_test : (slacks : List ℤ) (k : ℕ) → ¬ (of_z w64 (slice_index_or slacks k (pos 0)) ≡ 0) → ¬ (slice_index_or slacks k (pos 0) ≡ pos 0)
 not_zero_test slacks k n e = n (ap (of_z w64) e)
@@ -155,9 +145,8 @@ touch_more d i gs slacks old before after k g few keeps l s z e points set m one
     (touched_is d points set i g few (one_here d points set i gs slacks m k g l s) (sym (slack_here d (point_at points i) gs slacks m.measured k g l s) ∙ z))
     (keeps points set m ones))
 
-pub join_more : (d i : ℕ) (inside : Generator d) (above : ℤ) (gs : List (Generator d)) (slacks : List ℤ) (old before after : List (Generator d))
-    (k : ℕ) (g new : Generator d)
-    → KeepsOnesWith d i inside above gs slacks old before
+pub join_more : (d i : ℕ) (inside : Generator d) (above : ℤ) (gs : List (Generator d)) (slacks : List ℤ) (old before after : List (Generator d)) (k : ℕ)
+    (g new : Generator d) → KeepsOnesWith d i inside above gs slacks old before
     → k < length gs → g ≡ slice_index_or gs k g → slice_index_or slacks k (pos 0) <ℤ pos 0
     → IsJoined d i inside above g (slice_index_or slacks k (pos 0)) new → after ≡ kept_with new before
     → KeepsOnesWith d i inside above gs slacks old after
@@ -180,8 +169,8 @@ pub stay_more : (d i : ℕ) (gs : List (Generator d)) (slacks : List ℤ) (old b
 stay_more d i gs slacks old before after k g keeps l s z e points set m ones =
     subst (All (IsGenerator d points (with_point set i))) (sym e)
     (All-push (IsGenerator d points (with_point set i)) before g (keeps points set m ones)
-    (stays_is d points set i g (one_here d points set i gs slacks m k g l s)
-    (subst (λ (v : ℤ). pos 0 <ℤ v) (slack_here d (point_at points i) gs slacks m.measured k g l s) z)))
+    (stays_is d points set i g (one_here d points set i gs slacks m k g l s) (subst (λ (v : ℤ). pos 0 <ℤ v)
+    (slack_here d (point_at points i) gs slacks m.measured k g l s) z)))
 
 -- ---- the slacks, one by one
 
@@ -197,8 +186,8 @@ slacks_more d x gs slacks after k g s l e h f z =
 -- the slack of a point in a generator is small
 pub slack_small : (n p : List ℤ) (b : ℤ) → length p ≤ 4 → AreSmall (2 ^ 24) n → AreSmall 32 p → IsSmall (2 ^ 28) b → IsSmall (2 ^ 32) (b -ℤ dot n p)
 slack_small n p b few h k q =
-    small-weaken (2 ^ 28 + length p * (2 ^ 24 * 32)) (2 ^ 32) (b -ℤ dot n p)
-    (small-sub (2 ^ 28) (length p * (2 ^ 24 * 32)) b (dot n p) q (small-dot (2 ^ 24) 32 n p h k)) (omega arith)
+    small-weaken (2 ^ 28 + length p * (2 ^ 24 * 32)) (2 ^ 32) (b -ℤ dot n p) (small-sub (2 ^ 28) (length p * (2 ^ 24 * 32)) b (dot n p) q
+    (small-dot (2 ^ 24) 32 n p h k)) (omega arith)
 
 -- ---- the generators that have the point inside
 
@@ -212,16 +201,15 @@ InsideBelow {d} gs slacks next n = (k : ℕ) (e : Generator d) → k < n → pos
 pub inside_more : (d : ℕ) (gs : List (Generator d)) (slacks : List ℤ) (next : List (Generator d)) (n : ℕ) (g : Generator d) → n < length gs
     → g ≡ slice_index_or gs n g
     → InsideBelow gs slacks next n → InsideBelow gs slacks (next ++ g ∷ []) (n + 1)
-inside_more d gs slacks next n g l s h k e b p = elim (cases_eq k n) [
-  | inl z ↦
-      subst (λ (j : ℕ). Contains (next ++ g ∷ []) (slice_index_or gs j e)) (sym z)
-      (subst (Contains (next ++ g ∷ [])) (s ∙ any_default gs n g e l) (Contains-push next g))
+inside_more d gs slacks next n g l s h k e b p = elim (same_or_not k n) [
+  | inl z ↦ subst (λ (j : ℕ). Contains (next ++ g ∷ []) (slice_index_or gs j e)) (sym z)
+      (subst (Contains (next ++ g ∷ [])) (s ∙ default_same gs n g e l) (Contains-push next g))
   | inr z ↦ Contains-append_left next (g ∷ []) (slice_index_or gs k e) (h k e (omega arith) p)
 ]
 
 pub inside_same : (d : ℕ) (gs : List (Generator d)) (slacks : List ℤ) (next : List (Generator d)) (n : ℕ) → ¬ (pos 0 <ℤ slice_index_or slacks n (pos 0))
     → InsideBelow gs slacks next n → InsideBelow gs slacks next (n + 1)
-inside_same d gs slacks next n not h k e b p = elim (cases_eq k n) [
+inside_same d gs slacks next n not h k e b p = elim (same_or_not k n) [
   | inl z ↦ absurd (not (subst (λ (j : ℕ). pos 0 <ℤ slice_index_or slacks j (pos 0)) z p))
   | inr z ↦ h k e (omega arith) p
 ]

@@ -1,6 +1,5 @@
 -- Generators of the half-spaces that hold a set of points. A set of points of a list is a number: bit j is set where point j is a member.
-use Rattle.std.specs.Prelude.{◌≡◌, ◌↔◌, ℕ, ◌^◌, ◌<◌, ◌==◌, Bool, ℤ, ◌-ℤ◌, ◌*ℤ◌, bit_and, bit_or, List, [], ◌∷◌, ◌++◌, map, filter, length}
-use Rattle.std.specs.Prelude.{slice_index_or, All, Any, not, if◌then◌else◌}
+use Rattle.std.specs.Prelude.{◌≡◌, ◌↔◌, ℕ, ◌^◌, ◌<◌, ◌==◌, Bool, ℤ, ◌-ℤ◌, ◌*ℤ◌, bit_and, bit_or, List, [], ◌∷◌, ◌++◌, map, filter, length, slice_index_or, All, Any, not, if◌then◌else◌}
 use Rattle.std.specs.Int.{bit_at}
 use Rattle.std.specs.List.{list_any}
 use Rattle.polynomials.specs.Small.{IsSmall, AreSmall}
@@ -66,8 +65,8 @@ pub record IsGenerator (d : ℕ) (points : List (List ℤ)) (set : ℕ) (g : Gen
 abbrev pub IsCoveredBy : {d : ℕ} → List (List ℤ) → ℕ → HalfSpace → Generator d → Type 0
 IsCoveredBy {d} points set h g = (j : ℕ) → j < length points → bit_at set j ≡ 1 → IsTight h (point_at points j) → bit_at g.tight j ≡ 1
 
--- generators of the half-spaces that hold a set of points, which lie in no hyperplane: each half-space that holds them, and is not tight at all of
--- them, is tight at no point of the set at which some generator is not
+-- generators of the half-spaces that hold a set of points, which lie in no hyperplane: each half-space that holds them, and is not tight at
+-- all of them, is tight at no point of the set at which some generator is not
 pub record Generate (d : ℕ) (points : List (List ℤ)) (set : ℕ) (gs : List (Generator d)) : Type 0 where
   pub each : All (IsGenerator d points set) gs
   pub flat : (h : HalfSpace) → length h.normal ≡ d → OfSet points set (IsTight h) → ¬ (HasNormal h)
@@ -86,6 +85,10 @@ pub record GenerateAll (d : ℕ) (points : List (List ℤ)) (gs : List (Generato
 abbrev pub is_within_some : {d : ℕ} → ℕ → List (Generator d) → Bool
 is_within_some {d} set gs = list_any (λ (g : Generator d). is_within set g.tight) gs
 
+-- those whose sets do not lie within that of the new one, and the new one
+abbrev pub with_new : {d : ℕ} → Generator d → List (Generator d) → List (Generator d)
+with_new {d} new gs = filter (λ (g : Generator d). not (is_within g.tight new.tight)) gs ++ new ∷ []
+
 -- one generator more, unless its set lies within that of another; those whose sets lie within its own are left out
 abbrev pub kept_with : {d : ℕ} → Generator d → List (Generator d) → List (Generator d)
-kept_with {d} new gs = if is_within_some new.tight gs then gs else filter (λ (g : Generator d). not (is_within g.tight new.tight)) gs ++ new ∷ []
+kept_with {d} new gs = if is_within_some new.tight gs then gs else with_new new gs

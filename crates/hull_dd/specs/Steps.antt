@@ -29,8 +29,8 @@ pub record AreWithin {d : ℕ} (x : List ℤ) (i : ℕ) (gs next : List (Generat
 abbrev pub HasInside : {d : ℕ} → List ℤ → List (Generator d) → List (Generator d) → Type 0
 HasInside {d} x gs next = (g : Generator d) → Contains gs g → pos 0 <ℤ slack (half_of g) x → Contains next g
 
--- what joins a generator that has point i inside and one that has it outside, by their slacks there, is one of the set with that point, and is tight
--- where both are
+-- what joins a generator that has point i inside and one that has it outside, by their slacks there, is one of the set with that point, and
+-- is tight where both are
 abbrev pub IsJoined : (d i : ℕ) → Generator d → ℤ → Generator d → ℤ → Generator d → Type 0
 IsJoined d i inside above outside below new =
     (points : List (List ℤ)) (set : ℕ) → IsGenerator d points set inside → IsGenerator d points set outside → i < length points
@@ -46,14 +46,14 @@ pub record AreMeasured (d : ℕ) (points : List (List ℤ)) (set i : ℕ) (gs : 
 -- where the old ones are generators of the set with point i, so are the new ones
 abbrev pub KeepsOnes : (d i : ℕ) → List (Generator d) → List ℤ → List (Generator d) → List (Generator d) → Type 0
 KeepsOnes d i gs slacks old new =
-    (points : List (List ℤ)) (set : ℕ) → AreMeasured d points set i gs slacks → All (IsGenerator d points (with_point set i)) old
-    → All (IsGenerator d points (with_point set i)) new
+    (points : List (List ℤ)) (set : ℕ) → AreMeasured d points set i gs slacks → All (IsGenerator d points (with_point set i)) old → All
+    (IsGenerator d points (with_point set i)) new
 
 -- the same with one generator that has the point inside
 abbrev pub KeepsOnesWith : (d i : ℕ) → Generator d → ℤ → List (Generator d) → List ℤ → List (Generator d) → List (Generator d) → Type 0
 KeepsOnesWith d i inside above gs slacks old new =
-    (points : List (List ℤ)) (set : ℕ) → AreMeasured d points set i gs slacks → IsGenerator d points set inside
-    → above ≡ slack (half_of inside) (point_at points i) → pos 0 <ℤ above
+    (points : List (List ℤ)) (set : ℕ) → AreMeasured d points set i gs slacks → IsGenerator d points set inside → above ≡ slack (half_of inside)
+    (point_at points i) → pos 0 <ℤ above
     → All (IsGenerator d points (with_point set i)) old → All (IsGenerator d points (with_point set i)) new
 
 -- generators of a set of points give these of the set with point i

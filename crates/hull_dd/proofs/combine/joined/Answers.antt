@@ -16,8 +16,7 @@ returns g c =
     let reduced : IsReduced whole.normal whole.bound c.reduce-half.result.normal c.reduce-half.result.bound =
     subst (λ (n : List ℤ). IsReduced n whole.bound c.reduce-half.result.normal c.reduce-half.result.bound) c.combination.ensures.normal
     (subst (λ (b : ℤ). IsReduced c.combination.result.normal b c.reduce-half.result.normal c.reduce-half.result.bound) c.combination.ensures.bound
-    c.reduce-half.ensures)
-    in
+    c.reduce-half.ensures) in
     let new : Generator g.row.D = record {
       half = record { normal = c.reduce-half.result.normal; bound = c.reduce-half.result.bound };
       tight = bit_or (bit_and c.args.inside.now.tight c.args.outside.now.tight) (1 * 2 ^ c.args.i % 2 ^ 64);

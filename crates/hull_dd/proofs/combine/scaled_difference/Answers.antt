@@ -21,12 +21,9 @@ overflow_sub-row g c = (facts g c).both
 pub loop-i-preserved : goal.loop-i-preserved
 loop-i-preserved g c = record {
   all = length-set _ _ _ ∙ c.loop-i.invariant.all;
-  same =
-      written_more c.loop-i.row c.loop-i.i _ (λ k. back c.args.p *ℤ get_or c.args.xs.now k (pos 0) -ℤ back c.args.q *ℤ get_or c.args.ys.now k (pos 0))
+  same = written_more c.loop-i.row c.loop-i.i _ (λ k. back c.args.p *ℤ get_or c.args.xs.now k (pos 0) -ℤ back c.args.q *ℤ get_or c.args.ys.now k (pos 0))
       (omega arith)
-      ((facts g c).value
-      ∙ sym
-      (factors_back c.args.p (get_or c.args.xs.now c.loop-i.i (pos 0)) c.args.q (get_or c.args.ys.now c.loop-i.i (pos 0))
+      ((facts g c).value ∙ sym (factors_back c.args.p (get_or c.args.xs.now c.loop-i.i (pos 0)) c.args.q (get_or c.args.ys.now c.loop-i.i (pos 0))
       c.requires.p_small c.requires.q_small))
       c.loop-i.invariant.same;
 }

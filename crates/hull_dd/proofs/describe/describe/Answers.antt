@@ -13,8 +13,7 @@ loop-i-preserved g c = elim c.if-seen-i-eq0.branch [
       let next : Generate g.row.D c.args.points.now (with_point c.loop-i.seen c.loop-i.i) w.add_point.new.next.items =
       w.in_ok-add_point.ensures w.if-not-branch.false c.loop-i.seen
       (subst (λ (xs : List (Generator g.row.D)). Generate g.row.D c.args.points.now c.loop-i.seen xs) (sym w.deref.ensures.value)
-      c.loop-i.invariant.generate)
-      in
+      c.loop-i.invariant.generate) in
       record {
         generate = rw w.generators-is (rw w.swap.ensures.x_after (rw added next));
         before = rw added (before_added c.loop-i.seen c.loop-i.i c.loop-i.invariant.before);

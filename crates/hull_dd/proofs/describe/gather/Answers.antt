@@ -23,10 +23,8 @@ known g c = elim c.if-first-points.branch [
 pub loop-generator-preserved : goal.loop-generator-preserved
 loop-generator-preserved g c = record {
   known = known g c;
-  within =
-      within_more g.row.D c.args.generators.now c.loop-generator.facets.items c.if-first-points.facets.items c.loop-generator.generator-index
+  within = within_more g.row.D c.args.generators.now c.loop-generator.facets.items c.if-first-points.facets.items c.loop-generator.generator-index
       c.generator-item.result (omega arith) c.generator-item.is (kept g c)
-      (subst (λ (xs : List ℕ). IsWithinAny c.generator-item.result.tight xs) c.deref.ensures.value
-      (c.is_within_any.ensures c.if-not-is_within_any.false))
+      (subst (λ (xs : List ℕ). IsWithinAny c.generator-item.result.tight xs) c.deref.ensures.value (c.is_within_any.ensures c.if-not-is_within_any.false))
       c.loop-generator.invariant.within;
 }

@@ -8,5 +8,5 @@ use Rattle.hull_dd.proofs.step.are_meets_within.Given as goal
 -- the meets so far
 abbrev pub invariant-loop-k : goal.invariant-loop-k
 invariant-loop-k g l =
-    (k : ℕ) (e : Generator g.row.D) → k < l.k → slice_index_or l.slacks k (pos 0) <ℤ pos 0
-    → IsWithinSome (with_point (bit_and l.set (slice_index_or l.generators k e).tight) l.fn.i) l.next
+    (k : ℕ) (e : Generator g.row.D) → k < l.k → slice_index_or l.slacks k (pos 0) <ℤ pos 0 → IsWithinSome
+    (with_point (bit_and l.set (slice_index_or l.generators k e).tight) l.fn.i) l.next

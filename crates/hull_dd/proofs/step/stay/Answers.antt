@@ -15,31 +15,23 @@ loop-k-init g c = record {
 pub loop-k-preserved : goal.loop-k-preserved
 loop-k-preserved g c = elim c.if-slacks-k-gt0.branch [
   | then-slacks-k-gt0+in-Ok w ↦ record {
-    kept =
-        rw w.next-is
-        (rw w.in-Ok.ensures.items (contained_more c.args.next.now.items c.loop-k.next.items c.index-generators-k.result c.loop-k.invariant.kept));
-    inside =
-        rw w.next-is
-        (rw w.in-Ok.ensures.items
-        (inside_more g.row.D c.args.generators.now c.args.slacks.now c.loop-k.next.items c.loop-k.k c.index-generators-k.result (omega arith)
-        c.index-generators-k.is c.loop-k.invariant.inside));
-    ones =
-        λ i.
-        stay_more g.row.D i c.args.generators.now c.args.slacks.now c.args.next.now.items c.loop-k.next.items c.if-slacks-k-gt0.next.items
+    kept = rw w.next-is (rw w.in-Ok.ensures.items (contained_more c.args.next.now.items c.loop-k.next.items c.index-generators-k.result
+        c.loop-k.invariant.kept));
+    inside = rw w.next-is (rw w.in-Ok.ensures.items (inside_more g.row.D c.args.generators.now c.args.slacks.now c.loop-k.next.items c.loop-k.k
+        c.index-generators-k.result (omega arith) c.index-generators-k.is c.loop-k.invariant.inside));
+    ones = λ i. stay_more g.row.D i c.args.generators.now c.args.slacks.now c.args.next.now.items c.loop-k.next.items c.if-slacks-k-gt0.next.items
         c.loop-k.k c.index-generators-k.result
-        (c.loop-k.invariant.ones i) (omega arith) c.index-generators-k.is
-        (tested_above c.args.slacks.now c.loop-k.k c.requires.small (omega arith) w.if-slacks-k-gt0.true) (rw w.next-is w.in-Ok.ensures.items);
+        (c.loop-k.invariant.ones i) (omega arith) c.index-generators-k.is (tested_above c.args.slacks.now c.loop-k.k c.requires.small (omega arith)
+        w.if-slacks-k-gt0.true) (rw w.next-is w.in-Ok.ensures.items);
   }
   | else-slacks-k-gt0 w ↦ record {
     kept = rw w.next-is c.loop-k.invariant.kept;
-    inside =
-        rw w.next-is
-        (inside_same g.row.D c.args.generators.now c.args.slacks.now c.loop-k.next.items c.loop-k.k
+    inside = rw w.next-is (inside_same g.row.D c.args.generators.now c.args.slacks.now c.loop-k.next.items c.loop-k.k
         (not_above c.args.slacks.now c.loop-k.k c.requires.small (omega arith) w.if-slacks-k-gt0.false) c.loop-k.invariant.inside);
     ones = rw w.next-is c.loop-k.invariant.ones;
   }
 ]
 
 pub returns-clause-inside : goal.returns-clause-inside
-returns-clause-inside g c =
-    λ x e. has_inside g.row.D x c.args.generators.now c.args.slacks.now c.loop-k.next.items e (λ k d l. c.loop-k.invariant.inside k d (omega arith))
+returns-clause-inside g c = λ x e. has_inside g.row.D x c.args.generators.now c.args.slacks.now c.loop-k.next.items e
+    (λ k d l. c.loop-k.invariant.inside k d (omega arith))
