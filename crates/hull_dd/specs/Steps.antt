@@ -16,7 +16,7 @@ OfPoint {d} gs slacks P = (x : List ℤ) → slacks ≡ slacks_at x gs → P x
 abbrev pub IsWithinSome : {d : ℕ} → ℕ → List (Generator d) → Type 0
 IsWithinSome {d} set gs = Any (λ (g : Generator d). IsWithin set g.tight) gs
 
--- the meet of the set with that of each generator that has the point x outside, which is point i, lies with i within some tight set
+-- for each generator that has the point x outside, the meet of its tight set with this set lies, with i, within some tight set
 abbrev pub AreMeetsWithin : {d : ℕ} → List ℤ → ℕ → ℕ → List (Generator d) → List (Generator d) → Type 0
 AreMeetsWithin {d} x i set gs next = (g : Generator d) → Contains gs g → slack (half_of g) x <ℤ pos 0 → IsWithinSome (with_point (bit_and set g.tight) i) next
 
@@ -29,8 +29,8 @@ pub record AreWithin {d : ℕ} (x : List ℤ) (i : ℕ) (gs next : List (Generat
 abbrev pub HasInside : {d : ℕ} → List ℤ → List (Generator d) → List (Generator d) → Type 0
 HasInside {d} x gs next = (g : Generator d) → Contains gs g → pos 0 <ℤ slack (half_of g) x → Contains next g
 
--- what joins a generator that has point i inside and one that has it outside, by their slacks there, is one of the set with that point, and
--- is tight where both are
+-- the new one is a generator of the set with point i, where the two are generators of a set of points, the one with point i inside and the
+-- other with it outside, and these are their slacks there
 abbrev pub IsJoined : (d i : ℕ) → Generator d → ℤ → Generator d → ℤ → Generator d → Type 0
 IsJoined d i inside above outside below new =
     (points : List (List ℤ)) (set : ℕ) → IsGenerator d points set inside → IsGenerator d points set outside → i < length points
@@ -46,14 +46,14 @@ pub record AreMeasured (d : ℕ) (points : List (List ℤ)) (set i : ℕ) (gs : 
 -- where the old ones are generators of the set with point i, so are the new ones
 abbrev pub KeepsOnes : (d i : ℕ) → List (Generator d) → List ℤ → List (Generator d) → List (Generator d) → Type 0
 KeepsOnes d i gs slacks old new =
-    (points : List (List ℤ)) (set : ℕ) → AreMeasured d points set i gs slacks → All (IsGenerator d points (with_point set i)) old → All
-    (IsGenerator d points (with_point set i)) new
+    (points : List (List ℤ)) (set : ℕ) → AreMeasured d points set i gs slacks
+    → All (IsGenerator d points (with_point set i)) old → All (IsGenerator d points (with_point set i)) new
 
--- the same with one generator that has the point inside
+-- the same with one generator that has the point inside, and its slack there
 abbrev pub KeepsOnesWith : (d i : ℕ) → Generator d → ℤ → List (Generator d) → List ℤ → List (Generator d) → List (Generator d) → Type 0
 KeepsOnesWith d i inside above gs slacks old new =
-    (points : List (List ℤ)) (set : ℕ) → AreMeasured d points set i gs slacks → IsGenerator d points set inside → above ≡ slack (half_of inside)
-    (point_at points i) → pos 0 <ℤ above
+    (points : List (List ℤ)) (set : ℕ) → AreMeasured d points set i gs slacks
+    → IsGenerator d points set inside → above ≡ slack (half_of inside) (point_at points i) → pos 0 <ℤ above
     → All (IsGenerator d points (with_point set i)) old → All (IsGenerator d points (with_point set i)) new
 
 -- generators of a set of points give these of the set with point i
@@ -62,6 +62,7 @@ IsNextOf d points i gs next = (set : ℕ) → Generate d points set gs → Gener
 
 -- ---- sets that are given by their numbers
 
+-- the set lies within one of these
 abbrev pub IsWithinAny : ℕ → List ℕ → Type 0
 IsWithinAny set others = Any (λ other. IsWithin set other) others
 

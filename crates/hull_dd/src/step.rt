@@ -113,7 +113,7 @@ fn combine_all<const D: usize>(
     Ok(true)
 }
 
-// Where the set meets that of a generator that has the point outside, the meet with the point lies within some tight
+// The meet of the set with that of each generator that has the point outside lies, with the point, within some tight
 // set.
 fn are_meets_within<const D: usize>(
     i: usize,
