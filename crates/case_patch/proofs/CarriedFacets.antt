@@ -6,30 +6,28 @@ use Rattle.std.proofs.lemmas.List.Elements.{All-map, All-append, All-weaker}
 use Rattle.std.proofs.lemmas.List.{length-map}
 use Rattle.std.proofs.lemmas.List.FromFn.{length-map-range_with_len}
 use Rattle.iso_model.specs.declared.Kind.TheVariants.{Cube}
-use Rattle.iso_model.specs.Orders.{numbers, has}
-use Rattle.iso_model.specs.Cells.{HasDimension, is_set, edge_count, corner_count, edge_midpoint, corner_point}
+use Rattle.iso_model.specs.Cells.{HasDimension, edge_count, corner_count, edge_midpoint, corner_point}
 use Rattle.iso_model.specs.Turns.{slack, same_int}
-use Rattle.iso_model.specs.Hulls.{IsFacet, set_number}
+use Rattle.iso_model.specs.Hulls.{IsFacet}
 use Rattle.iso_model.specs.Entries.{label_edges, label_corners, label_points}
 use Rattle.iso_model.specs.Moves.{Move, Carries}
-use Rattle.iso_model.proofs.BipolarLaws.{Contains-map}
-use Rattle.iso_model.proofs.Deciding.{below_contained, All-from_each}
-use Rattle.iso_model.proofs.KeptLaws.{filter-same}
 use Rattle.halfspace.specs.Choices.{AreFacetNumbers, IsFacetNumber}
 use Rattle.halfspace.proofs.FoundSets.{digit, bit_of_number}
-use Rattle.cell_lattice.specs.Dimensions.{IsDimension}
 use Rattle.cube_moves.proofs.OrderChecks.{few_axes}
 use Rattle.cube_moves.proofs.InverseMoves.{AreInverse, inverse_too, carries_back}
 use Rattle.case_patch.specs.FacetLists.{AreAllFacets}
 use Rattle.case_patch.specs.MovedPoints.{carried_point, carried_by}
-use Rattle.case_patch.proofs.AddedTuples.{contains_mapped}
-use Rattle.case_patch.proofs.FacetSets.{listed_facets, facet_number}
+use Rattle.case_patch.proofs.FacetSets.{listed_facets, facet_number, digit_test}
 use Rattle.case_patch.proofs.LabelPoints.{edges_below, corners_below}
 use Rattle.case_patch.proofs.MovedFacets.{PointsMatch, moved_set, facet_moved}
 use Rattle.case_patch.proofs.MovedPoints.{points_match}
 use Rattle.case_patch.proofs.MovedTurns.{at_place}
 use Rattle.case_patch.proofs.OffSets.{has_is_test}
 use Rattle.case_patch.proofs.SmallPoints.{corner_is_point, midpoint_is_point}
+use Rattle.lists.specs.Orders.{numbers, has}
+use Rattle.lists.specs.Bits.{is_set, set_number}
+use Rattle.lists.proofs.Contained.{from_Contains-map, below_contained, All-from_each, filter-same, Contains-mapped}
+use Rattle.iso_model.specs.Dimensions.{IsDimension}
 
 -- the points of a labelling have d coordinates
 points_wide : (d label : ℕ) → IsDimension d → All (λ p. length p ≡ d) (label_points Cube d label)
@@ -46,11 +44,6 @@ points_wide d label is = All-append (λ p. length p ≡ d)
   where
     has_d : HasDimension Cube d
     has_d = few_axes d is
-
--- the number of a facet's set has the bits of its members
-digit_test : (b : Bool) → (digit b == 1) ≡ b
-digit_test true = refl
-digit_test false = refl
 
 facet_bit : (d : ℕ) (points : List (List ℤ)) (set : List ℕ) (j : ℕ) → IsFacet d points set → j < length points → is_set (set_number set) j ≡ has set j
 facet_bit d points set j f h =
@@ -94,7 +87,7 @@ facets_carried d P Q by τ σ m go come found list e are = record { each = λ nu
   where
     there : (number : ℕ) → Contains (map (carried_by list) found) number → IsFacetNumber d P number
     there number c =
-        let x = Contains-map (carried_by list) found number c in
+        let x = from_Contains-map (carried_by list) found number c in
         let f = (are.each x.0).0 x.1 in
         (moved_set P σ f.0, go f.0 f.1, sym x.2 ∙ ap (carried_by list) f.2 ∙ carried_facet d by P Q τ σ m list e f.0 f.1)
 
@@ -103,7 +96,7 @@ facets_carried d P Q by τ σ m go come found list e are = record { each = λ nu
         let g = come f.0 f.1 in
         subst (Contains (map (carried_by list) found))
         (carried_facet d by P Q τ σ m list e (moved_set Q τ f.0) g ∙ ap set_number (moved_twice d by P Q τ σ m f.0 f.1) ∙ sym f.2)
-        (contains_mapped (carried_by list) found (set_number (moved_set Q τ f.0)) (facet_number d Q found (moved_set Q τ f.0) are g))
+        (Contains-mapped (carried_by list) found (set_number (moved_set Q τ f.0)) (facet_number d Q found (moved_set Q τ f.0) are g))
 
 -- the facets of a labelling of a cube, from those of the labelling to which a move carries it
 pub class_facets : (d : ℕ) → IsDimension d → (by un : Move) → AreInverse d by un → (label other : ℕ) → label < 2 ^ (2 ^ d) → Carries d by label other

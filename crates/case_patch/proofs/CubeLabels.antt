@@ -10,9 +10,6 @@ use Rattle.case_patch.proofs.LabelPoints.{edges_below, corners_below, few_points
 pub cube_label : (kind : Kind) (d corners label : ℕ) → kind ≡ Cube → corners ≡ corner_count kind d → label < 2 ^ corners → label < 2 ^ (2 ^ d)
 cube_label kind d corners label k c h = subst (λ (q : Kind). label < 2 ^ corner_count q d) k (subst (λ (n : ℕ). label < 2 ^ n) c h)
 
-pub cell_label : (kind : Kind) (d corners label : ℕ) → kind ≡ Cube → corners ≡ corner_count kind d → label < 2 ^ (2 ^ d) → label < 2 ^ corners
-cell_label kind d corners label k c h = subst (λ (n : ℕ). label < 2 ^ n) (sym c) (subst (λ (q : Kind). label < 2 ^ corner_count q d) (sym k) h)
-
 pub cube_edges_below : (kind : Kind) (d label : ℕ) (es : List ℕ) → kind ≡ Cube → es ≡ label_edges kind d label → All (λ e. e < edge_count Cube d) es
 cube_edges_below kind d label es k e = subst (λ (q : Kind). All (λ x. x < edge_count q d) es) k
     (subst (All (λ x. x < edge_count kind d)) (sym e) (edges_below kind d label))

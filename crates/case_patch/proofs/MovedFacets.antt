@@ -8,25 +8,24 @@ use Rattle.std.proofs.lemmas.List.Elements.{All-nil, All-cons, All-head, All-tai
 use Rattle.std.proofs.lemmas.List.FromFn.{length-map-range_with_len}
 use Rattle.polynomials.proofs.Ring.{var, con, ◌⊖◌, ◌⊗◌, neg, value, normal, ring}
 use Rattle.polynomials.proofs.SmallLaws.{same_ints}
-use Rattle.iso_model.specs.Orders.{numbers, orders, has}
-use Rattle.iso_model.specs.Cells.{is_set}
 use Rattle.iso_model.specs.Moves.{Move}
 use Rattle.iso_model.specs.Turns.{turn, total, signed, minus, dot, HalfSpace, HasNormal, Holds, slack, same_int, Spans, rows_to}
 use Rattle.iso_model.specs.Hulls.{IsFacet, members}
-use Rattle.iso_model.proofs.Deciding.{below_contained, each-from_All, All-from_each, any_default}
-use Rattle.iso_model.proofs.KeptLaws.{filter-same}
-use Rattle.iso_model.proofs.PlaceLaws.{map-map}
 use Rattle.small_turn.proofs.TurnExpr as E
 use Rattle.small_turn.proofs.Planes.{length-minus}
 use Rattle.small_turn.proofs.PointLaws.{get_or-minus}
 use Rattle.cell_lattice.specs.Agreement.{agree_on}
-use Rattle.cell_lattice.specs.Dimensions.{IsDimension, in_each_dimension}
 use Rattle.cube_moves.proofs.OrderChecks.{axis-below, back}
 use Rattle.cube_moves.proofs.InverseMoves.{order_turns_back}
 use Rattle.halfspace.proofs.Bases.{length-members}
-use Rattle.halfspace.proofs.SetNumbers.{has_below}
 use Rattle.case_patch.proofs.OffSets.{has_is_test}
 use Rattle.case_patch.proofs.MovedTurns.{map_below, places_of, at_place, value-total, turned, turned_spans}
+use Rattle.lists.specs.Orders.{numbers, orders, has}
+use Rattle.lists.specs.Bits.{is_set}
+use Rattle.lists.proofs.Contained.{below_contained, each-from_All, All-from_each, any_default, filter-same}
+use Rattle.lists.proofs.MemberLaws.{map-map}
+use Rattle.iso_model.specs.Dimensions.{IsDimension, in_each_dimension}
+use Rattle.halfspace.proofs.TightNumbers.{has_below}
 
 -- a point of the cube in quarter-units that a move carries
 abbrev pub placed : ℕ → Move → List ℤ → List ℤ

@@ -9,18 +9,13 @@ use Rattle.std.proofs.lemmas.Int.{ints}
 use Rattle.std.proofs.lemmas.List.{length-map, get_or-map, get_or_append_left, get_or-append_right}
 use Rattle.std.proofs.lemmas.Nat.Bits.{bit_at-lt}
 use Rattle.iso_model.specs.declared.Kind.TheVariants.{Cube}
-use Rattle.iso_model.specs.Orders.{numbers, orders}
 use Rattle.iso_model.specs.Points.{plus}
-use Rattle.iso_model.specs.Cells.{is_set, corner_point, edge_count, edge_ends, edge_midpoint, midpoint_between}
+use Rattle.iso_model.specs.Cells.{corner_point, edge_count, edge_ends, edge_midpoint, midpoint_between}
 use Rattle.iso_model.specs.Bipolar.{is_bipolar_in}
 use Rattle.iso_model.specs.Entries.{label_edges, label_corners, label_points}
 use Rattle.iso_model.specs.Moves.{Move, IsMove, Carries, move_corner, move_edge}
-use Rattle.iso_model.proofs.Deciding.{below_contained, contained_below, Contains-at}
-use Rattle.iso_model.proofs.FaceLaws.{Contains-filter, Contains-split}
-use Rattle.iso_model.proofs.PlaceLaws.{map-map}
 use Rattle.pulling_tri.proofs.ChainLaws.{Ascends, filter_ascends}
-use Rattle.pulling_tri.proofs.SetBits.{kept_by, kept_passes, range_ascends}
-use Rattle.cell_lattice.specs.Dimensions.{IsDimension}
+use Rattle.pulling_tri.proofs.SetBits.{kept_by, range_ascends}
 use Rattle.cube_moves.proofs.MovedBits.{corner-bit, corner-below}
 use Rattle.cube_moves.proofs.OrderChecks.{axis-below}
 use Rattle.cube_moves.proofs.InverseMoves.{AreInverse, inverse_too, carries_back, edge_moved, edge_moved_ends, edge_there, bipolar_moved}
@@ -28,6 +23,12 @@ use Rattle.case_patch.specs.MovedPoints.{place, carried_point}
 use Rattle.case_patch.proofs.LabelPoints.{points_length}
 use Rattle.case_patch.proofs.MovedTurns.{map_below, at_place}
 use Rattle.case_patch.proofs.MovedFacets.{placed, PointsMatch}
+use Rattle.lists.specs.Orders.{numbers, orders}
+use Rattle.lists.specs.Bits.{is_set}
+use Rattle.lists.proofs.Contained.{below_contained, contained_below, Contains-at, Contains-filter, Contains-split, Contains-passes}
+use Rattle.lists.proofs.MemberLaws.{map-map}
+use Rattle.iso_model.specs.Dimensions.{IsDimension}
+use Rattle.iso_model.proofs.PointLaws.{plus_comm}
 
 -- ---- places in lists
 
@@ -120,18 +121,12 @@ middle_placed d is by o j k =
     middle_at : (a : ℕ) → a < d → slice_index_or (map pos (midpoint_between Cube d (j, k))) a (pos 0) ≡ pos (2 * bit_at j a + 2 * bit_at k a)
     middle_at a h = ap (λ (xs : List ℤ). slice_index_or xs a (pos 0)) (middle j k) ∙ at_place (λ i. pos (2 * bit_at j i + 2 * bit_at k i)) d a (pos 0) h
 
-plus-turned : (xs ys : List ℕ) → plus xs ys ≡ plus ys xs
-plus-turned [] [] = refl
-plus-turned [] (y ∷ ys) = refl
-plus-turned (x ∷ xs) [] = refl
-plus-turned (x ∷ xs) (y ∷ ys) = let s : x + y ≡ y + x = omega arith in ap (λ (n : ℕ). n ∷ plus xs ys) s ∙ ap (λ (zs : List ℕ). (y + x) ∷ zs) (plus-turned xs ys)
-
 -- the midpoint of a moved edge
 pub edge_placed : (d : ℕ) → IsDimension d → (by : Move) → IsMove d by → (e : ℕ) → e < edge_count Cube d
     → placed d by (map pos (edge_midpoint Cube d e)) ≡ map pos (edge_midpoint Cube d (move_edge d by e))
 edge_placed d is by move e h =
     edge_moved_ends d is by move e h (λ x y. placed d by (map pos (edge_midpoint Cube d e)) ≡ map pos (plus (corner_point Cube d x) (corner_point Cube d y)))
-    (λ x y p. p ∙ ap (map pos) (plus-turned (corner_point Cube d x) (corner_point Cube d y)))
+    (λ x y p. p ∙ ap (map pos) (plus_comm (corner_point Cube d x) (corner_point Cube d y)))
     (middle_placed d is by move.0 (edge_ends Cube d e).0 (edge_ends Cube d e).1)
 
 -- ---- the points of a labelling, one by one
@@ -222,7 +217,7 @@ midpoint_carried d is by un inv label other c i h =
         (contained_below (edge_count Cube d) (move_edge d by (slice_index (label_edges Cube d label) i))
         (edge_moved d is by inv.is_move (slice_index (label_edges Cube d label) i) in_e).below)
         (bipolar_moved d is by inv.is_move label other c (slice_index (label_edges Cube d label) i) in_e
-        ∙ kept_passes (is_bipolar_in Cube d label) (numbers (edge_count Cube d)) (slice_index (label_edges Cube d label) i) there)
+        ∙ Contains-passes (is_bipolar_in Cube d label) (numbers (edge_count Cube d)) (slice_index (label_edges Cube d label) i) there)
 
     found : (place (label_edges Cube d other) (move_edge d by (slice_index (label_edges Cube d label) i)) < length (label_edges Cube d other))
         × (slice_index (label_edges Cube d other) (place (label_edges Cube d other) (move_edge d by (slice_index (label_edges Cube d label) i)))
@@ -286,7 +281,7 @@ corner_carried d is by un inv label other c i h in_i =
         (contained_below (2 ^ d) (move_corner d by (slice_index (label_corners Cube d label) (i - length (label_edges Cube d label))))
         (corner-below d by (slice_index (label_corners Cube d label) (i - length (label_edges Cube d label)))))
         (c.1 (slice_index (label_corners Cube d label) (i - length (label_edges Cube d label))) in_k
-        ∙ kept_passes (is_set label) (numbers (2 ^ d)) (slice_index (label_corners Cube d label) (i - length (label_edges Cube d label))) there_k)
+        ∙ Contains-passes (is_set label) (numbers (2 ^ d)) (slice_index (label_corners Cube d label) (i - length (label_edges Cube d label))) there_k)
 
     found : (place (label_corners Cube d other) (move_corner d by (slice_index (label_corners Cube d label) (i - length (label_edges Cube d label)))) < length
         (label_corners Cube d other))

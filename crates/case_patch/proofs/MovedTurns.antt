@@ -8,17 +8,16 @@ use Rattle.std.proofs.lemmas.List.{length-map}
 use Rattle.std.proofs.lemmas.List.FromFn.{fill_by_all, get_or-map-range_with_len, length-map-range_with_len}
 use Rattle.polynomials.proofs.IntLaws.{mul-eq-zero, mul-minus_one, mul-one_left}
 use Rattle.polynomials.proofs.Ring.{Expr, var, ◌⊗◌, value, normal, ring}
-use Rattle.iso_model.specs.Orders.{numbers, orders, is_odd_order}
-use Rattle.iso_model.specs.Cells.{is_set}
 use Rattle.iso_model.specs.Moves.{Move}
 use Rattle.iso_model.specs.Turns.{turn, total, signed, product_along}
-use Rattle.iso_model.proofs.Deciding.{below_contained, each-from_All}
-use Rattle.iso_model.proofs.FaceLaws.{Contains-head, Contains-tail}
-use Rattle.iso_model.proofs.PlaceLaws.{map-map}
 use Rattle.small_turn.proofs.TurnExpr as E
 use Rattle.cell_lattice.specs.Agreement.{agree_on}
-use Rattle.cell_lattice.specs.Dimensions.{IsDimension, in_each_dimension}
 use Rattle.cube_moves.proofs.OrderChecks.{axis-below}
+use Rattle.lists.specs.Orders.{numbers, orders, is_odd_order}
+use Rattle.lists.specs.Bits.{is_set}
+use Rattle.lists.proofs.Contained.{below_contained, each-from_All, Contains-head, Contains-tail}
+use Rattle.lists.proofs.MemberLaws.{map-map}
+use Rattle.iso_model.specs.Dimensions.{IsDimension, in_each_dimension}
 
 -- ---- lists over the numbers below n
 

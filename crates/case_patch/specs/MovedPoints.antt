@@ -2,12 +2,11 @@
 use Rattle.std.specs.Prelude.{◌≡◌, ℕ, ◌+◌, ◌-◌, nat_lt, nat_eq, List, map, filter, length, slice_index, if◌then◌else◌}
 use Rattle.std.specs.List.{position_or_len}
 use Rattle.iso_model.specs.declared.Kind.TheVariants.{Cube}
-use Rattle.iso_model.specs.Orders.{numbers}
-use Rattle.iso_model.specs.Cells.{is_set}
-use Rattle.iso_model.specs.Hulls.{set_number}
 use Rattle.iso_model.specs.Entries.{label_edges, label_corners, label_points}
 use Rattle.cube_moves.specs.declared.moves.Move.{Move as CodeMove}
 use Rattle.iso_model.specs.Moves.{Move, Carries, move_corner, move_edge}
+use Rattle.lists.specs.Orders.{numbers}
+use Rattle.lists.specs.Bits.{is_set, set_number}
 
 -- the place of a number in a list
 abbrev pub place : List ℕ → ℕ → ℕ

@@ -4,8 +4,8 @@ ghost use Rattle.std.specs.Prelude.{◌≡◌, ◌+◌, ◌^◌, ◌<◌, ◌≤
 ghost use Rattle.iso_model.specs.declared.Kind.{Kind};
 ghost use Rattle.iso_model.specs.Cells.{edge_count};
 ghost use Rattle.iso_model.specs.Moves.{IsMove};
-ghost use Rattle.cell_lattice.specs.Dimensions.{IsDimension};
 ghost use Rattle.case_patch.specs.MovedPoints.{place, carried_along, AreCarriedAlong, AreCarriedNumbers, carried_by};
+ghost use Rattle.iso_model.specs.Dimensions.{IsDimension};
 
 use crate::boundary::add_set;
 use crate::points::{add_number, bipolar_edges, positive_corners};

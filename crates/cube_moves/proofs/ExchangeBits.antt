@@ -8,9 +8,10 @@ use Rattle.std.proofs.lemmas.Bool.Decides.{nat_tests}
 use Rattle.std.proofs.lemmas.Nat.{shr-shr, shr_split, pow_pos, and_le_l}
 use Rattle.std.proofs.lemmas.Nat.Bits.{bit_at_cat_low, bit_at_cat_high, bit_at-lt, bit_at-zero, bit_at_above, bit_at_and, bit_at_or, same_from_bits}
 use Rattle.std.proofs.Math.Nat.{mod-eq_of_lt, mod-lt, mul-le-mul, pow-le-pow_right}
-use Rattle.iso_model.specs.Cells.{is_set}
 use Rattle.cube_moves.specs.declared.words.Exchange.{Exchange}
 use Rattle.cube_moves.specs.Exchanges.{IsExchange, partner, is_free}
+use Rattle.lists.specs.Bits.{is_set}
+use Rattle.lists.proofs.Bits.{bit-set, bit-unset}
 
 -- ---- bits of shifted numbers
 
@@ -75,17 +76,6 @@ word-bit w x c small near =
 
 -- ---- sets and their bits
 
-set-bit : (n c : ℕ) → is_set n c ≡ true → bit_at n c ≡ 1
-set-bit n c e = eqb-true (bit_at n c) 1 e
-
-unset-bit : (n c : ℕ) → is_set n c ≡ false → bit_at n c ≡ 0
-unset-bit n c e = let l = bit_at-lt n c in let f = eqb-false (bit_at n c) 1 e in zero_of (bit_at n c) l f
-  where
-    zero_of : (b : ℕ) → b < 2 → (b ≡ 1 → ⊥) → b ≡ 0
-    zero_of zero l f = refl
-    zero_of (suc zero) l f = absurd (f refl)
-    zero_of (suc (suc b)) l f = absurd (omega arith)
-
 free-raised : (w : ℕ) (x : Exchange) (c : ℕ) → is_free x c ≡ true → raised w x c ≡ 0
 free-raised w x c free = by_place (nat_lt c x.shift) (is_set x.lower (c - x.shift)) refl free
   where
@@ -93,11 +83,11 @@ free-raised w x c free = by_place (nat_lt c x.shift) (is_set x.lower (c - x.shif
         → cond t 0 (min (bit_at w (c - x.shift)) (bit_at x.lower (c - x.shift))) ≡ 0
     by_place true u e f = refl
     by_place false true e f = absurd (cc)
-    by_place false false e f = let z = unset-bit x.lower (c - x.shift) e in omega arith
+    by_place false false e f = let z = bit-unset x.lower (c - x.shift) e in omega arith
 
 taken-raised : (w : ℕ) (x : Exchange) (c : ℕ) → x.shift ≤ c → is_set x.lower (c - x.shift) ≡ true → raised w x c ≡ bit_at w (c - x.shift)
 taken-raised w x c up set =
-    let o = set-bit x.lower (c - x.shift) set in
+    let o = bit-set x.lower (c - x.shift) set in
     let l = bit_at-lt w (c - x.shift) in
     let p : nat_lt c x.shift ≡ false = grind (arith, nat_tests) in
     ap (λ (t : Bool). cond t 0 (min (bit_at w (c - x.shift)) (bit_at x.lower (c - x.shift)))) p ∙ omega arith
@@ -115,22 +105,22 @@ exchanged_signs d w x small is c below =
     by_set true true e f g = absurd (cc)
     by_set true false e f g =
         let y = free-raised w x c g in
-        let k = set-bit x.kept c e in
-        let l = unset-bit x.lower c f in
+        let k = bit-set x.kept c e in
+        let l = bit-unset x.lower c f in
         let s = bit_at-lt w c in
         omega arith
     by_set false true e f g =
         let y = free-raised w x c (and_parts (nat_lt (c + x.shift) (2 ^ d)) (is_free x c) g).1 in
-        let k = unset-bit x.kept c e in
-        let l = set-bit x.lower c f in
+        let k = bit-unset x.kept c e in
+        let l = bit-set x.lower c f in
         let s = bit_at-lt w (c + x.shift) in
         omega arith
     by_set false false e f g =
         let p = and_parts (nat_le x.shift c) (is_set x.lower (c - x.shift)) g in
         let up : x.shift ≤ c = let t = p.0 in grind (arith, nat_tests) in
         let y = taken-raised w x c up p.1 in
-        let k = unset-bit x.kept c e in
-        let l = unset-bit x.lower c f in
+        let k = bit-unset x.kept c e in
+        let l = bit-unset x.lower c f in
         omega arith
 
 -- and no bits stand above the corners
@@ -155,7 +145,7 @@ exchanged_below d w x small in_label is =
             let p = (and_parts (nat_lt (e + x.shift) (2 ^ d)) (is_free x e) g).0 in
             let q : e + x.shift < 2 ^ d = grind (arith, nat_tests) in
             absurd (omega arith)
-        by_set k false f g = unset-bit x.lower e f
+        by_set k false f g = bit-unset x.lower e f
 
     raised_none : (c : ℕ) → 2 ^ d ≤ c → raised w x c ≡ 0
     raised_none c above = by_place (nat_lt c x.shift) (nat_lt (c - x.shift) (2 ^ d)) refl refl

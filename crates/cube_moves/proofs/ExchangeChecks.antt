@@ -4,20 +4,17 @@ use Rattle.std.specs.List.{list_all}
 use Rattle.std.specs.Int.{bit_at, w64, trailing_zeros}
 use Rattle.std.proofs.Common.{refl, sym, ap, ◌∙◌, arith}
 use Rattle.std.proofs.lemmas.Bool.{and_parts, ltb-true, leb-true, eqb-true}
-use Rattle.iso_model.specs.Orders.{numbers, orders}
-use Rattle.iso_model.specs.Cells.{is_set}
 use Rattle.iso_model.specs.Moves.{Move, Carries, move_corner}
-use Rattle.cell_lattice.specs.Dimensions.{IsDimension, in_each_dimension}
 use Rattle.cube_moves.specs.declared.words.Exchange.{Exchange}
 use Rattle.cube_moves.specs.declared.tables.TheConstants.{FLIPS, SWAPS, STEPS, COUNTS}
 use Rattle.cube_moves.specs.Exchanges.{IsExchange, partner, fits_at}
 use Rattle.cube_moves.proofs.MovedBits.{order_alone, flips_alone, corner-below}
 use Rattle.cube_moves.proofs.OrderChecks.{each_below}
+use Rattle.lists.specs.Orders.{numbers, orders}
+use Rattle.lists.specs.Bits.{is_set}
+use Rattle.iso_model.specs.Dimensions.{IsDimension, in_each_dimension}
 
 -- ---- exchanges
-
-no_exchange : Exchange
-no_exchange = record { kept = 0; lower = 0; shift = 0 }
 
 abbrev pub all_fit : ℕ → Exchange → Bool
 all_fit d x = list_all (fits_at d x) (numbers (2 ^ d)) && nat_le x.shift 16

@@ -8,18 +8,19 @@ use Rattle.std.proofs.lemmas.Bool.{eqb-true, ltb-true, and_parts, cases_lt}
 use Rattle.std.proofs.lemmas.Nat.Bits.{bit_at-lt, same_from_bits_below, bit_at-zero}
 use Rattle.std.proofs.lemmas.Slice.Eq.{bytes_eq-Decides}
 use Rattle.iso_model.specs.declared.Kind.TheVariants.{Cube}
-use Rattle.iso_model.specs.Orders.{numbers, orders, same_list}
-use Rattle.iso_model.specs.Cells.{HasDimension, is_set, edge_count, edge_ends, edge_between}
+use Rattle.iso_model.specs.Cells.{HasDimension, edge_count, edge_ends, edge_between}
 use Rattle.iso_model.specs.Bipolar.{differ, is_bipolar_in}
 use Rattle.iso_model.specs.Moves.{Move, IsMove, Carries, move_corner, move_edge}
 use Rattle.cell_lattice.specs.CellLemmas.{found_by_ends}
-use Rattle.cell_lattice.specs.Dimensions.{IsDimension}
 use Rattle.cube_moves.specs.Joined.{IsJoined}
 use Rattle.cube_moves.proofs.MovedBits.{order_alone, flips_alone, with_flips, corner-below, corner-bit}
 use Rattle.cube_moves.proofs.OrderChecks.{back, each_below, each_order, few_axes, axis-below}
 use Rattle.cube_moves.proofs.LeastLabels.{order_there, same_bit}
 use Rattle.cube_moves.proofs.ExchangeChecks.{order_of}
 use Rattle.cube_moves.proofs.MovedEdges.{edge_step, moved_joined}
+use Rattle.lists.specs.Orders.{numbers, orders, same_list}
+use Rattle.lists.specs.Bits.{is_set}
+use Rattle.iso_model.specs.Dimensions.{IsDimension}
 
 -- ---- orders backwards
 

@@ -7,28 +7,18 @@ use Rattle.std.proofs.lemmas.Nat.{or_lt, pow_pos}
 use Rattle.std.proofs.lemmas.Nat.Bits.{bit_at_set_same, bit_at_set_other, bit_at-zero}
 use Rattle.std.proofs.Math.Nat.{mod-eq_of_lt}
 use Rattle.std.proofs.Math.Pow.{pow-lt}
-use Rattle.iso_model.specs.Cells.{is_set}
 use Rattle.iso_model.specs.Moves.{Move, IsMove, Carries, move_corner}
-use Rattle.cell_lattice.specs.Dimensions.{IsDimension}
 use Rattle.cube_moves.proofs.MovedBits.{corner-below}
 use Rattle.cube_moves.proofs.ExchangeChecks.{few_flips}
 use Rattle.cube_moves.proofs.InverseMoves.{AreInverse, undone, undone_is}
+use Rattle.lists.specs.Bits.{is_set}
+use Rattle.iso_model.specs.Dimensions.{IsDimension}
 
 -- the corners below n are moved, and the others are not yet
 pub record IsMovedBelow (d : ℕ) (by : Move) (label n moved : ℕ) : Type 0 where
   pub below : moved < 2 ^ (2 ^ d)
   pub done : (k : ℕ) → k < 2 ^ d → k < n → is_set moved (move_corner d by k) ≡ is_set label k
   pub left : (k : ℕ) → k < 2 ^ d → n ≤ k → is_set moved (move_corner d by k) ≡ false
-
-pub none_moved : (d : ℕ) (by : Move) (label : ℕ) → IsMovedBelow d by label 0 0
-none_moved d by label = record {
-  below = zero_small;
-  done = λ k h l. absurd (omega arith);
-  left = λ k h l. ap (λ (b : ℕ). b == 1) (bit_at-zero (move_corner d by k));
-}
-  where
-    zero_small : 0 < 2 ^ (2 ^ d)
-    zero_small = pow_pos (2 ^ d)
 
 -- different corners go to different ones
 apart : (d : ℕ) (by un : Move) → AreInverse d by un → (j k : ℕ) → j < 2 ^ d → k < 2 ^ d → j ≢ k → move_corner d by j ≢ move_corner d by k
@@ -75,7 +65,3 @@ one_more_moved d is by move label n moved c in_n at some so_far = record {
         ∙ sym some ∙ ap (is_set label) (sym e)
     by_place k h (inr (inl m)) l = ap (λ (b : ℕ). b == 1) (bit_at_set_other w32 moved c small (move_corner d by k) (other k h (inr m))) ∙ so_far.done k h m
     by_place k h (inr (inr m)) l = absurd (omega arith)
-
--- where all corners are moved the label is carried
-pub all_moved : (d : ℕ) (by : Move) (label n moved : ℕ) → 2 ^ d ≤ n → IsMovedBelow d by label n moved → Carries d by label moved
-all_moved d by label n moved all so_far = (so_far.below, λ k h. so_far.done k h (omega arith))

@@ -6,15 +6,15 @@ use Rattle.std.proofs.Common.{refl, sym, ap, ◌∙◌, subst, arith, inl, inr}
 use Rattle.std.proofs.lemmas.Bool.{eqb-true, ltb-true, cases_order}
 use Rattle.std.proofs.lemmas.Bool.Decides.{nat_tests}
 use Rattle.std.proofs.lemmas.Nat.Bits.{bit_at-lt, same_from_bits_below}
-use Rattle.iso_model.specs.Orders.{numbers, orders, comes_before}
-use Rattle.iso_model.specs.Cells.{is_set}
 use Rattle.iso_model.specs.Moves.{Move, IsMove, Carries, IsEarlier, IsLeastLabel, move_corner}
-use Rattle.iso_model.proofs.Deciding.{any_default, Contains-at}
-use Rattle.cell_lattice.specs.Dimensions.{IsDimension, in_each_dimension}
 use Rattle.cube_moves.specs.LeastFlips.{IsLeastFlip}
 use Rattle.cube_moves.proofs.MovedBits.{order_alone, flips_alone, with_flips, corner-below, order_then_flips, flips_undone}
 use Rattle.cube_moves.proofs.OrderChecks.{back, goes-back, each_below}
 use Rattle.cube_moves.proofs.ExchangeChecks.{order_of}
+use Rattle.lists.specs.Orders.{numbers, orders, comes_before}
+use Rattle.lists.specs.Bits.{is_set}
+use Rattle.lists.proofs.Contained.{any_default, Contains-at}
+use Rattle.iso_model.specs.Dimensions.{IsDimension, in_each_dimension}
 
 -- ---- a label is known by the signs of the moved corners
 

@@ -7,8 +7,8 @@ use Rattle.std.proofs.lemmas.Bool.Decides.{nat_tests}
 use Rattle.std.proofs.lemmas.List.FromFn.{get_or-range_with_len}
 use Rattle.std.proofs.lemmas.List.Sums.{sum_by_push}
 use Rattle.std.proofs.lemmas.Nat.Bits.{bit_at_cat_low, bit_at_cat_high, bit_at-lt, bit_at-zero, same_from_bits_below}
-use Rattle.iso_model.specs.Orders.{numbers}
 use Rattle.iso_model.specs.Moves.{Move, move_corner}
+use Rattle.lists.specs.Orders.{numbers}
 
 -- ---- a number by its digits
 

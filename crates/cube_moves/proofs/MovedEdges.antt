@@ -5,13 +5,13 @@ use Rattle.std.specs.Int.{bit_at}
 use Rattle.std.proofs.Common.{refl, sym, ap, ◌∙◌, subst, arith, inl, inr}
 use Rattle.std.proofs.lemmas.Bool.{eqb-true, eq-eqb, ltb-true, and_parts, cases_lt}
 use Rattle.iso_model.specs.declared.Kind.TheVariants.{Cube}
-use Rattle.iso_model.specs.Orders.{numbers, orders}
 use Rattle.iso_model.specs.Cells.{edge_count, edge_ends, edge_between}
 use Rattle.iso_model.specs.Moves.{Move, IsMove, move_corner}
-use Rattle.cell_lattice.specs.Dimensions.{IsDimension, in_each_dimension}
 use Rattle.cube_moves.specs.Joined.{IsJoined}
 use Rattle.cube_moves.proofs.MovedBits.{order_alone, flips_alone, with_flips, corner-below, order_then_flips}
 use Rattle.cube_moves.proofs.OrderChecks.{each_below, each_order}
+use Rattle.lists.specs.Orders.{numbers, orders}
+use Rattle.iso_model.specs.Dimensions.{IsDimension, in_each_dimension}
 
 -- two corners that differ in one axis
 pub record IsStep (d i x y : ℕ) : Type 0 where

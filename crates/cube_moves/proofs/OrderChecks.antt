@@ -5,10 +5,10 @@ use Rattle.std.proofs.Common.{refl, sym, ap, ◌∙◌, subst, arith}
 use Rattle.std.proofs.lemmas.Bool.{and_parts, ltb-true, eqb-true}
 use Rattle.std.proofs.lemmas.List.FromFn.{length-range_with_len, get_or-range_with_len}
 use Rattle.std.proofs.lemmas.List.Sums.{AllPass-from_list_all}
-use Rattle.iso_model.specs.Orders.{numbers, orders}
 use Rattle.iso_model.specs.Moves.{move_corner}
-use Rattle.cell_lattice.specs.Dimensions.{IsDimension, in_each_dimension}
 use Rattle.cube_moves.proofs.MovedBits.{order_alone}
+use Rattle.lists.specs.Orders.{numbers, orders}
+use Rattle.iso_model.specs.Dimensions.{IsDimension, in_each_dimension}
 
 -- what a test that is passed at all numbers below n says of each
 pub each_below : (p : ℕ → Bool) (n : ℕ) → list_all p (numbers n) ≡ true → (k : ℕ) → k < n → p k ≡ true
@@ -46,10 +46,6 @@ is_order d axes = (length axes == d) && list_all (λ i. nat_lt (slice_index axes
 
 all_are_orders : (d : ℕ) → IsDimension d → (axes : List ℕ) → Contains (orders d) axes → is_order d axes ≡ true
 all_are_orders = each_order is_order refl refl refl
-
-pub order-length : (d : ℕ) → IsDimension d → (axes : List ℕ) → Contains (orders d) axes → length axes ≡ d
-order-length d is axes o =
-    eqb-true (length axes) d (and_parts (length axes == d) (list_all (λ i. nat_lt (slice_index axes i) d) (numbers d)) (all_are_orders d is axes o)).0
 
 pub axis-below : (d : ℕ) → IsDimension d → (axes : List ℕ) → Contains (orders d) axes → (i : ℕ) → i < d → slice_index axes i < d
 axis-below d is axes o i h =

@@ -1,7 +1,7 @@
 -- Lists of the labels to which the moves of one kind carry a label.
 use Rattle.std.specs.Prelude.{ℕ, ◌^◌, ◌<◌, List, [], length, slice_index, slice_index_or}
-use Rattle.iso_model.specs.Orders.{numbers, orders}
 use Rattle.iso_model.specs.Moves.{Carries}
+use Rattle.lists.specs.Orders.{numbers, orders}
 
 -- the labels to which the orders of the axes carry a label without flips, in ascending order of the orders
 abbrev pub AreByOrders : ℕ → ℕ → List ℕ → Type 0

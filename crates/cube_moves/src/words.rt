@@ -2,10 +2,10 @@
 
 ghost use Rattle.std.specs.Prelude.{◌≡◌, ℕ, ◌^◌, ◌<◌, [], length, slice_index_or};
 ghost use Rattle.std.specs.Int.{bit_at};
-ghost use Rattle.iso_model.specs.Orders.{orders};
-ghost use Rattle.cell_lattice.specs.Dimensions.{IsDimension};
 ghost use Rattle.cube_moves.specs.Exchanges.{IsExchange, partner};
 ghost use Rattle.cube_moves.specs.LabelLists.{AreByOrders, AreByFlips};
+ghost use Rattle.lists.specs.Orders.{orders};
+ghost use Rattle.iso_model.specs.Dimensions.{IsDimension};
 
 use crate::tables::{COUNTS, FLIPS, ORDERS, STEPS, SWAPS};
 

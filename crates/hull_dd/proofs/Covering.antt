@@ -3,12 +3,13 @@ use Rattle.std.specs.Prelude.{◌≡◌, ℕ, ◌+◌, ◌*◌, ◌%◌, ◌^◌
 use Rattle.std.proofs.Common.{sym, ◌∙◌, subst, arith, inl, inr}
 use Rattle.std.proofs.lemmas.Bool.Decides.{nat_tests}
 use Rattle.std.proofs.lemmas.List.Folds.{Any-from_list_any}
-use Rattle.halfspace.proofs.SlackLaws.{default_same}
 use Rattle.hull_dd.specs.declared.generators.Generator.{Generator}
 use Rattle.hull_dd.specs.Generators.{with_point, is_within, IsWithin, is_within_some}
 use Rattle.hull_dd.specs.Steps.{slacks_at, IsWithinSome, AreMeetsWithin, AreWithin}
-use Rattle.hull_dd.proofs.Bits.{same_or_not, shifted_one}
 use Rattle.hull_dd.proofs.Staying.{slack_here}
+use Rattle.lists.proofs.Contained.{any_default}
+use Rattle.lists.proofs.Bits.{shifted_one}
+use Rattle.std.proofs.lemmas.Bool.{cases_eq}
 
 pub tested_within : (set other : ℕ) → is_within set other ≡ true → IsWithin set other
 tested_within set other e = grind (arith, nat_tests)
@@ -33,15 +34,15 @@ MeetsBelow {d} i set gs slacks next n =
 pub meets_more : (d i set : ℕ) (gs : List (Generator d)) (slacks : List ℤ) (next : List (Generator d)) (n : ℕ) (g : Generator d) → n < length gs
     → g ≡ slice_index_or gs n g
     → IsWithinSome (with_point (bit_and set g.tight) i) next → MeetsBelow i set gs slacks next n → MeetsBelow i set gs slacks next (n + 1)
-meets_more d i set gs slacks next n g l s w h k e b p = elim (same_or_not k n) [
+meets_more d i set gs slacks next n g l s w h k e b p = elim (cases_eq k n) [
   | inl z ↦ subst (λ (j : ℕ). IsWithinSome (with_point (bit_and set (slice_index_or gs j e).tight) i) next) (sym z)
-      (subst (λ (x : Generator d). IsWithinSome (with_point (bit_and set x.tight) i) next) (s ∙ default_same gs n g e l) w)
+      (subst (λ (x : Generator d). IsWithinSome (with_point (bit_and set x.tight) i) next) (s ∙ any_default gs n g e l) w)
   | inr z ↦ h k e (omega arith) p
 ]
 
 pub meets_same : (d i set : ℕ) (gs : List (Generator d)) (slacks : List ℤ) (next : List (Generator d)) (n : ℕ) → ¬ (slice_index_or slacks n (pos 0) <ℤ pos 0)
     → MeetsBelow i set gs slacks next n → MeetsBelow i set gs slacks next (n + 1)
-meets_same d i set gs slacks next n not h k e b p = elim (same_or_not k n) [
+meets_same d i set gs slacks next n not h k e b p = elim (cases_eq k n) [
   | inl z ↦ absurd (not (subst (λ (j : ℕ). slice_index_or slacks j (pos 0) <ℤ pos 0) z p))
   | inr z ↦ h k e (omega arith) p
 ]
@@ -67,9 +68,9 @@ PairsBelow {d} i gs slacks next n =
 pub on_more : (d i : ℕ) (gs : List (Generator d)) (slacks : List ℤ) (next : List (Generator d)) (n : ℕ) (g : Generator d) → n < length gs
     → g ≡ slice_index_or gs n g
     → (slice_index_or slacks n (pos 0) ≡ pos 0 → IsWithinSome (with_point g.tight i) next) → OnBelow i gs slacks next n → OnBelow i gs slacks next (n + 1)
-on_more d i gs slacks next n g l s w h k e b p = elim (same_or_not k n) [
+on_more d i gs slacks next n g l s w h k e b p = elim (cases_eq k n) [
   | inl z ↦ subst (λ (j : ℕ). IsWithinSome (with_point (slice_index_or gs j e).tight i) next) (sym z)
-      (subst (λ (x : Generator d). IsWithinSome (with_point x.tight i) next) (s ∙ default_same gs n g e l)
+      (subst (λ (x : Generator d). IsWithinSome (with_point x.tight i) next) (s ∙ any_default gs n g e l)
       (w (subst (λ (j : ℕ). slice_index_or slacks j (pos 0) ≡ pos 0) z p)))
   | inr z ↦ h k e (omega arith) p
 ]
@@ -78,9 +79,9 @@ pub pairs_more : (d i : ℕ) (gs : List (Generator d)) (slacks : List ℤ) (next
     → g ≡ slice_index_or gs n g
     → (pos 0 <ℤ slice_index_or slacks n (pos 0) → (x : List ℤ) → slacks ≡ slacks_at x gs → AreMeetsWithin x i g.tight gs next)
     → PairsBelow i gs slacks next n → PairsBelow i gs slacks next (n + 1)
-pairs_more d i gs slacks next n g l s w h k e b p x q = elim (same_or_not k n) [
+pairs_more d i gs slacks next n g l s w h k e b p x q = elim (cases_eq k n) [
   | inl z ↦ subst (λ (j : ℕ). AreMeetsWithin x i (slice_index_or gs j e).tight gs next) (sym z)
-      (subst (λ (y : Generator d). AreMeetsWithin x i y.tight gs next) (s ∙ default_same gs n g e l)
+      (subst (λ (y : Generator d). AreMeetsWithin x i y.tight gs next) (s ∙ any_default gs n g e l)
       (w (subst (λ (j : ℕ). pos 0 <ℤ slice_index_or slacks j (pos 0)) z p) x q))
   | inr z ↦ h k e (omega arith) p x q
 ]

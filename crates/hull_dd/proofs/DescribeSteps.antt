@@ -7,9 +7,10 @@ use Rattle.iso_model.specs.Turns.{HalfSpace, slack, Holds, IsTight}
 use Rattle.hull_dd.specs.declared.generators.Generator.{Generator}
 use Rattle.hull_dd.specs.Generators.{point_at, OfSet, combined, half_of, with_point, IsGenerator, IsCoveredBy, Generate}
 use Rattle.hull_dd.specs.Steps.{AreWithin, HasInside, IsWithinSome}
-use Rattle.hull_dd.proofs.Bits.{point_added, member_stays, member_split, in_both, within_bit}
+use Rattle.hull_dd.proofs.GeneratorBits.{point_added, member_stays, member_split, in_both, within_bit}
 use Rattle.hull_dd.proofs.Towards.{TakenOff, taken_off, Toward, toward}
-use Rattle.hull_dd.proofs.Signs.{zero_or_not, above_or_not}
+use Rattle.hull_dd.proofs.Signs.{above_or_not}
+use Rattle.small_turn.proofs.SpanLaws.{is_zero}
 
 -- ---- signs
 
@@ -69,7 +70,7 @@ next_generate d points set gs next i inside gen ones within stay = record {
 
     covered : (h : HalfSpace) → length h.normal ≡ d → OfSet points (with_point set i) (Holds h) → ¬ (OfSet points (with_point set i) (IsTight h))
         → Any (IsCoveredBy points (with_point set i) h) next
-    covered h wide all loose = by_slack (zero_or_not (slack h x))
+    covered h wide all loose = by_slack (is_zero (slack h x))
       where
         holds : OfSet points set (Holds h)
         holds j l b = all j l (member_stays set i j b)
@@ -110,7 +111,7 @@ next_generate d points set gs next i inside gen ones within stay = record {
         ])
 
         at_zero : slack h x ≡ pos 0 → Any (IsCoveredBy points set h) gs → Any (IsCoveredBy points (with_point set i) h) next
-        at_zero z a = by_side (zero_or_not (slack (half_of g) x)) (above_or_not (slack (half_of g) x))
+        at_zero z a = by_side (is_zero (slack (half_of g) x)) (above_or_not (slack (half_of g) x))
           where
             g : Generator d
             g = a.1

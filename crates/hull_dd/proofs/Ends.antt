@@ -4,18 +4,22 @@ use Rattle.std.specs.Int.{bit_at}
 use Rattle.std.proofs.Common.{sym, ap, ◌∙◌, subst, arith, inl, inr}
 use Rattle.std.proofs.lemmas.List.Elements.{All-contains, All-weaker}
 use Rattle.std.proofs.lemmas.Nat.Bits.{shr_and_one, bit_at-lt}
-use Rattle.iso_model.specs.Orders.{has}
 use Rattle.iso_model.specs.Turns.{HalfSpace, slack, IsTight, same_int}
-use Rattle.iso_model.specs.Hulls.{IsFacet, set_number}
+use Rattle.iso_model.specs.Hulls.{IsFacet}
 use Rattle.halfspace.specs.Choices.{AreSomeFacets}
 use Rattle.halfspace.proofs.Bases.{chosen_wide}
-use Rattle.halfspace.proofs.SetNumbers.{has_passes, same_int-is}
-use Rattle.halfspace.proofs.SlackLaws.{default_same}
-use Rattle.halfspace.proofs.Steps.{tried_known}
 use Rattle.hull_dd.specs.declared.generators.Generator.{Generator}
 use Rattle.hull_dd.specs.Generators.{point_at, IsCoveredBy, Generate, GenerateAll, with_point}
 use Rattle.hull_dd.specs.Steps.{IsWithinAny, AreWithinAny}
-use Rattle.hull_dd.proofs.Bits.{same_or_not, shifted_one, point_added, member_stays, within_bit}
+use Rattle.hull_dd.proofs.GeneratorBits.{point_added, member_stays, within_bit}
+use Rattle.lists.specs.Orders.{has}
+use Rattle.lists.specs.Bits.{set_number}
+use Rattle.halfspace.proofs.TightNumbers.{has_passes}
+use Rattle.iso_model.proofs.PointLaws.{same_int-is}
+use Rattle.lists.proofs.Contained.{any_default}
+use Rattle.halfspace.proofs.FacetSteps.{tried_known}
+use Rattle.lists.proofs.Bits.{shifted_one}
+use Rattle.std.proofs.lemmas.Bool.{cases_eq}
 
 -- ---- a facet is found
 
@@ -71,7 +75,7 @@ pub set_with : (set i after : ℕ) → i < 48 → after ≡ bit_or set (1 * 2 ^ 
 set_with set i after few e = e ∙ ap (bit_or set) (shifted_one i (omega arith))
 
 pub before_more : (set i : ℕ) → ((j : ℕ) → j < i → bit_at set j ≡ 1) → bit_at set i ≡ 1 → (j : ℕ) → j < i + 1 → bit_at set j ≡ 1
-before_more set i h here j l = elim (same_or_not j i) [
+before_more set i h here j l = elim (cases_eq j i) [
   | inl s ↦ subst (λ (k : ℕ). bit_at set k ≡ 1) (sym s) here
   | inr n ↦ h j (omega arith)
 ]
@@ -90,8 +94,8 @@ WithinBelow {d} gs found n = (k : ℕ) (e : Generator d) → k < n → IsWithinA
 pub within_more : (d : ℕ) (gs : List (Generator d)) (old new : List ℕ) (n : ℕ) (g : Generator d) → n < length gs → g ≡ slice_index_or gs n g
     → All (Contains new) old → IsWithinAny g.tight new
     → WithinBelow gs old n → WithinBelow gs new (n + 1)
-within_more d gs old new n g l s kept w h k e b = elim (same_or_not k n) [
+within_more d gs old new n g l s kept w h k e b = elim (cases_eq k n) [
   | inl z ↦ subst (λ (j : ℕ). IsWithinAny (slice_index_or gs j e).tight new) (sym z) (subst (λ (x : Generator d). IsWithinAny x.tight new)
-      (s ∙ default_same gs n g e l) w)
+      (s ∙ any_default gs n g e l) w)
   | inr z ↦ within_kept (slice_index_or gs k e).tight old new kept (h k e (omega arith))
 ]

@@ -6,7 +6,8 @@ use Rattle.std.proofs.lemmas.List.{take_more}
 use Rattle.std.proofs.lemmas.List.Elements.{Contains-push, Contains-append_left}
 use Rattle.hull_dd.specs.Generators.{with_point}
 use Rattle.hull_dd.specs.Starts.{IsSetOf}
-use Rattle.hull_dd.proofs.Bits.{shifted_one, point_added, member_stays, member_split}
+use Rattle.hull_dd.proofs.GeneratorBits.{point_added, member_stays, member_split}
+use Rattle.lists.proofs.Bits.{shifted_one}
 
 -- a member of a list with one more at the end is that one or a member of the list
 pub Contains-pushed : {X : Type 0} (xs : List X) (x y : X) → Contains (xs ++ x ∷ []) y → (y ≡ x) ⊎ Contains xs y

@@ -1,5 +1,6 @@
 -- What joins two generators on opposite sides of a point is a generator of the set with that point.
-use Rattle.std.specs.Prelude.{◌≡◌, ℕ, zero, suc, ◌*◌, ◌%◌, ◌^◌, ◌<◌, ◌≤◌, ℤ, pos, negsuc, nat_abs, ◌-ℤ◌, ◌*ℤ◌, ◌≤ℤ◌, ◌<ℤ◌, bit_and, bit_or, List, [], ◌∷◌, map, length}
+use Rattle.std.specs.Prelude.{◌≡◌, ℕ, zero, suc, ◌*◌, ◌%◌, ◌^◌, ◌<◌, ◌≤◌, ℤ, pos, negsuc, nat_abs, ◌-ℤ◌, ◌*ℤ◌, ◌≤ℤ◌, ◌<ℤ◌, bit_and, bit_or, List, []}
+use Rattle.std.specs.Prelude.{◌∷◌, map, length}
 use Rattle.std.specs.Int.{bit_at}
 use Rattle.std.proofs.Common.{refl, sym, ap, ◌∙◌, subst, arith, inl, inr, lit<, to_z, of_z, w64}
 use Rattle.std.proofs.lemmas.Int.{ints, unsigned_abs-mul}
@@ -13,8 +14,10 @@ use Rattle.halfspace.specs.Divisors.{IsReduced}
 use Rattle.hull_dd.specs.declared.generators.Generator.{Generator}
 use Rattle.hull_dd.specs.Generators.{point_at, OfSet, combined, half_of, with_point, HasSmallNumbers, IsGenerator}
 use Rattle.hull_dd.specs.Steps.{IsJoined}
-use Rattle.hull_dd.proofs.Bits.{same_or_not, shifted_one, point_added, member_stays, member_split, in_both, in_first, in_second}
+use Rattle.hull_dd.proofs.GeneratorBits.{point_added, member_stays, member_split, in_both, in_first, in_second}
 use Rattle.hull_dd.proofs.Combinations.{combined-slack, combined-wide}
+use Rattle.lists.proofs.Bits.{shifted_one}
+use Rattle.std.proofs.lemmas.Bool.{cases_eq}
 
 -- ---- signs of the slack
 
@@ -172,7 +175,7 @@ product_grows zero n m h z = absurd (z refl)
 product_grows (suc d) n m h z = omega arith
 
 pub reduced_small : (n : List ℤ) (b : ℤ) (m : List ℤ) (c : ℤ) → IsReduced n b m c → IsSmall (2 ^ 62) b → IsSmall (2 ^ 62) c
-reduced_small n b m c r s = elim (same_or_not r.divisor 0) [
+reduced_small n b m c r s = elim (cases_eq r.divisor 0) [
   | inl z ↦ subst (λ (v : ℤ). IsSmall (2 ^ 62) v) (sym (r.stays z).1) s
   | inr z ↦ product_grows r.divisor (nat_abs c) (2 ^ 62) (let e = ap nat_abs r.constant ∙ unsigned_abs-mul (pos r.divisor) c in omega arith) z
 ]

@@ -1,5 +1,6 @@
 -- The half-space through D points with a further one off it: no half-space with a normal is tight at all of these.
-use Rattle.std.specs.Prelude.{◌≡◌, ◌≢◌, ◌⊎◌, ℕ, zero, suc, ◌+◌, ◌<◌, ◌≤◌, ℤ, pos, negsuc, neg_ℤ, ◌^◌, ◌-ℤ◌, ◌*ℤ◌, ◌≤ℤ◌, ◌<ℤ◌, List, [], ◌∷◌, map, length, slice_index_or, All}
+use Rattle.std.specs.Prelude.{◌≡◌, ◌≢◌, ◌⊎◌, ℕ, zero, suc, ◌+◌, ◌<◌, ◌≤◌, ℤ, pos, negsuc, neg_ℤ, ◌^◌, ◌-ℤ◌, ◌*ℤ◌, ◌≤ℤ◌, ◌<ℤ◌, List, [], ◌∷◌, map}
+use Rattle.std.specs.Prelude.{length, slice_index_or, All}
 use Rattle.std.proofs.Common.{refl, sym, ap, ◌∙◌, subst, arith, inl, inr}
 use Rattle.std.proofs.lemmas.Int.{ints}
 use Rattle.std.proofs.lemmas.List.Elements.{All-nil, All-cons, All-head, All-tail}
@@ -12,8 +13,6 @@ use Rattle.iso_model.specs.Hulls.{members}
 use Rattle.small_turn.proofs.Planes.{turn_laws, AreWide, AreTight, SamePlane, tight_same, hyper-turn}
 use Rattle.halfspace.proofs.Bases.{length-members, chosen_wide}
 use Rattle.halfspace.proofs.FacetFound.{own_tight}
-use Rattle.halfspace.proofs.Steps.{normal_wide}
-use Rattle.halfspace.proofs.SlackLaws.{default_same}
 use Rattle.small_turn.specs.declared.HalfSpace.{HalfSpace as SmallHalfSpace}
 use Rattle.hull_dd.specs.declared.generators.Generator.{Generator}
 use Rattle.hull_dd.specs.Generators.{point_at, combined, plain, half_of, HasSmallNumbers}
@@ -21,6 +20,8 @@ use Rattle.hull_dd.specs.Starts.{IsTightAt, IsSetOf, IsOpposite}
 use Rattle.hull_dd.proofs.Combinations.{combined-slack, combined-wide}
 use Rattle.hull_dd.proofs.Products.{scaled_at}
 use Rattle.hull_dd.proofs.Signs.{above_or_not}
+use Rattle.halfspace.proofs.FacetSteps.{normal_wide}
+use Rattle.lists.proofs.Contained.{any_default}
 
 -- ---- tight at the chosen points, by the list
 
@@ -54,7 +55,7 @@ pub record IsNone (h : HalfSpace) : Type 0 where
 none_by_plane : (d : ℕ) (f q : ℤ) (h g : HalfSpace) → SamePlane d f q h g → f ≢ pos 0 → q ≡ pos 0 → IsNone h
 none_by_plane d f q h g plane n z = record {
   flat = λ a. a.4 (mul-eq-zero f a.1
-      (ap (λ (c : ℤ). f *ℤ c) (sym a.3 ∙ default_same h.normal a.0 a.1 (pos 0) a.2) ∙ sym (scaled_at f h.normal a.0 a.2)
+      (ap (λ (c : ℤ). f *ℤ c) (sym a.3 ∙ any_default h.normal a.0 a.1 (pos 0) a.2) ∙ sym (scaled_at f h.normal a.0 a.2)
       ∙ ap (λ (xs : List ℤ). slice_index_or xs a.0 (pos 0)) (plane.normals ∙ ap (λ (c : ℤ). map (λ x. c *ℤ x) g.normal) z)
       ∙ zero_scaled g.normal a.0) n);
   full = λ x. mul-eq-zero f (slack h x) (plane.slacks x ∙ ap (λ (c : ℤ). c *ℤ slack g x) z ∙ mul-zero_left (slack g x)) n;

@@ -5,9 +5,9 @@ use Rattle.std.proofs.lemmas.List.{length-map}
 use Rattle.polynomials.specs.Small.{IsSmall, AreSmall}
 use Rattle.polynomials.proofs.SmallLaws.{small-mul, small-sub, small-weaken, small-fits, small-back, same_ints}
 use Rattle.iso_model.specs.Turns.{minus}
-use Rattle.halfspace.proofs.SlackLaws.{default_same}
 use Rattle.small_turn.proofs.PointLaws.{get_or-minus}
 use Rattle.small_turn.proofs.Planes.{length-minus}
+use Rattle.lists.proofs.Contained.{any_default}
 
 -- a number as it is read back from its 64 bits
 abbrev pub back : ℤ → ℤ
@@ -83,5 +83,5 @@ pub row_small : (p q : ℤ) (row xs ys : List ℤ) → length row ≡ length xs 
     → AreSmall (2 ^ 24) xs → AreSmall (2 ^ 24) ys
     → ((k : ℕ) → k < length xs → get_or row k (pos 0) ≡ p *ℤ get_or xs k (pos 0) -ℤ q *ℤ get_or ys k (pos 0)) → AreSmall (2 ^ 62) row
 row_small p q row xs ys e f hp hq hx hy h k d l =
-    subst (λ (z : ℤ). IsSmall (2 ^ 62) z) (sym (default_same row k d (pos 0) l ∙ h k (omega arith)))
+    subst (λ (z : ℤ). IsSmall (2 ^ 62) z) (sym (any_default row k d (pos 0) l ∙ h k (omega arith)))
     (products p (get_or xs k (pos 0)) q (get_or ys k (pos 0)) hp (coefficient xs k hx (omega arith)) hq (coefficient ys k hy (omega arith))).small

@@ -26,7 +26,7 @@ le_or_less a b = by_test (nat_le a b) refl
     by_test true e = inl (grind (arith, nat_tests))
     by_test false e = inr (grind (arith, nat_tests))
 
--- a / b is at most c / e, and e / f .. : the ratio at j is at least that at k, which is more than that at n
+-- the ratio at j is at least that at k, which is more than that at n
 less_ratio : (hk gk hn gn hj gj : ℕ) → 0 < gk → hk * gj ≤ gk * hj → gk * hn ≤ hk * gn → hn * gj ≤ gn * hj
 less_ratio hk gk hn gn hj gj p a b =
     cancelled gk (hn * gj) (gn * hj) p

@@ -3,11 +3,6 @@ use Rattle.std.specs.Prelude.{◌≡◌, ◌≢◌, ◌⊎◌, zero, suc, ℤ, p
 use Rattle.std.proofs.Common.{refl, arith, inl, inr}
 use Rattle.std.proofs.lemmas.Int.{ints}
 
-pub zero_or_not : (c : ℤ) → (c ≡ pos 0) ⊎ (c ≢ pos 0)
-zero_or_not (pos zero) = inl refl
-zero_or_not (pos (suc n)) = inr (λ e. absurd (omega (arith, ints, e)))
-zero_or_not (negsuc n) = inr (λ e. absurd (omega (arith, ints, e)))
-
 pub above_or_not : (c : ℤ) → (pos 0 <ℤ c) ⊎ (c ≤ℤ pos 0)
 above_or_not (pos zero) = inr (omega (arith, ints))
 above_or_not (pos (suc n)) = inl (omega (arith, ints))

@@ -4,12 +4,14 @@ use Rattle.std.specs.Int.{bit_at}
 use Rattle.std.proofs.Common.{refl, sym, ap, ◌∙◌, subst, arith, inl, inr, get_or-set_same, get_or-set_other, length-set}
 use Rattle.std.proofs.lemmas.List.Elements.{All-nil, All-cons, All-contains, All-push, Contains-push, Contains-append_left}
 use Rattle.iso_model.specs.Turns.{HalfSpace, slack, Holds, IsTight}
-use Rattle.halfspace.proofs.SlackLaws.{default_same}
 use Rattle.hull_dd.specs.declared.generators.Generator.{Generator}
 use Rattle.hull_dd.specs.Generators.{point_at, OfSet, half_of, with_point, IsGenerator, IsCoveredBy, Generate}
 use Rattle.hull_dd.specs.Starts.{IsSetOf, IsTightAt, IsOpposite}
-use Rattle.hull_dd.proofs.Bits.{same_or_not, point_added, member_stays, member_split}
-use Rattle.hull_dd.proofs.Signs.{zero_or_not, zero_holds, above_holds, above_not_zero}
+use Rattle.hull_dd.proofs.GeneratorBits.{point_added, member_stays, member_split}
+use Rattle.hull_dd.proofs.Signs.{zero_holds, above_holds, above_not_zero}
+use Rattle.lists.proofs.Contained.{any_default}
+use Rattle.small_turn.proofs.SpanLaws.{is_zero}
+use Rattle.std.proofs.lemmas.Bool.{cases_eq}
 
 -- the set has the chosen points and the further one, and no others
 pub record IsWhole (choice : List ℕ) (apart set : ℕ) : Type 0 where
@@ -65,22 +67,22 @@ whole_other choice set k l h = record {
     | inl s ↦ inr (
       k,
       omega (arith, length-set choice k 0),
-      sym (default_same (slice_set choice k 0) k 0 j (omega (arith, length-set choice k 0))) ∙
+      sym (any_default (slice_set choice k 0) k 0 j (omega (arith, length-set choice k 0))) ∙
           get_or-set_same choice k 0 0 l ∙ sym s,
     )
     | inr n ↦ kept j ((h j).0 n)
   ];
-  chosen = λ j c. elim (same_or_not c.0 k) [
+  chosen = λ j c. elim (cases_eq c.0 k) [
     | inl s ↦ subst (λ (i : ℕ). bit_at (with_point set 0) i ≡ 1)
         (sym (get_or-set_same choice k 0 j l) ∙ ap (λ (i : ℕ). slice_index_or (slice_set choice k 0) i j) (sym s) ∙ c.2) (point_added set 0)
     | inr n ↦ member_stays set 0 j ((h j).1 (c.0, omega (arith, length-set choice k 0, c.1), sym (get_or-set_other choice k c.0 0 j n) ∙ c.2))
   ];
-  there = member_stays set 0 (slice_index_or choice k 0) ((h (slice_index_or choice k 0)).1 (k, l, default_same choice k (slice_index_or choice k 0) 0 l));
+  there = member_stays set 0 (slice_index_or choice k 0) ((h (slice_index_or choice k 0)).1 (k, l, any_default choice k (slice_index_or choice k 0) 0 l));
 }
   where
     kept : (j : ℕ) → Contains choice j → (j ≡ slice_index_or choice k 0) ⊎ Contains (slice_set choice k 0) j
-    kept j c = elim (same_or_not c.0 k) [
-      | inl s ↦ inl (sym c.2 ∙ ap (λ (i : ℕ). slice_index_or choice i j) s ∙ default_same choice k j 0 l)
+    kept j c = elim (cases_eq c.0 k) [
+      | inl s ↦ inl (sym c.2 ∙ ap (λ (i : ℕ). slice_index_or choice i j) s ∙ any_default choice k j 0 l)
       | inr n ↦ inr (c.0, omega (arith, length-set choice k 0, c.1), get_or-set_other choice k c.0 0 j n ∙ c.2)
     ]
 
@@ -96,7 +98,7 @@ all_or_some : (h : HalfSpace) (points : List (List ℤ)) (choice : List ℕ) (n 
     → ((k : ℕ) → k < n → IsTight h (point_at points (slice_index_or choice k 0))) ⊎ ((k : ℕ) × (k < n) × ¬
     (IsTight h (point_at points (slice_index_or choice k 0))))
 all_or_some h points choice zero = inl (λ k l. absurd (omega arith))
-all_or_some h points choice (suc n) = next (all_or_some h points choice n) (zero_or_not (slack h (point_at points (slice_index_or choice n 0))))
+all_or_some h points choice (suc n) = next (all_or_some h points choice n) (is_zero (slack h (point_at points (slice_index_or choice n 0))))
   where
     next : (((k : ℕ) → k < n → IsTight h (point_at points (slice_index_or choice k 0))) ⊎
         ((k : ℕ) × (k < n) × ¬ (IsTight h (point_at points (slice_index_or choice k 0)))))
@@ -105,7 +107,7 @@ all_or_some h points choice (suc n) = next (all_or_some h points choice n) (zero
         ((k : ℕ) × (k < suc n) × ¬ (IsTight h (point_at points (slice_index_or choice k 0))))
     next (inr s) t = inr (s.0, omega (arith, s.1), s.2)
     next (inl a) (inr t) = inr (n, omega arith, t)
-    next (inl a) (inl t) = inl (λ k l. elim (same_or_not k n) [
+    next (inl a) (inl t) = inl (λ k l. elim (cases_eq k n) [
       | inl e ↦ subst (λ (i : ℕ). IsTight h (point_at points (slice_index_or choice i 0))) (sym e) t
       | inr m ↦ a k (omega arith)
     ])
@@ -117,12 +119,12 @@ start_generates d points choice set gs is_set o inside some = record {
   each = o.each set is_set;
   flat = λ h w t. o.first.4.flat h w (at_chosen h t) (t 0 some (point_added set 0));
   full = λ h w t j l. o.first.4.full h w (at_chosen h t) (t 0 some (point_added set 0)) (point_at points j);
-  enough = λ h w holds loose. covered h loose (zero_or_not (slack h (point_at points 0)));
+  enough = λ h w holds loose. covered h loose (is_zero (slack h (point_at points 0)));
 }
   where
     at_chosen : (h : HalfSpace) → OfSet points (with_point set 0) (IsTight h) → IsTightAt points choice h
     at_chosen h t k e l = t (slice_index_or choice k e) (inside k e l) (member_stays set 0 (slice_index_or choice k e)
-        ((is_set (slice_index_or choice k e)).1 (k, l, default_same choice k (slice_index_or choice k e) e l)))
+        ((is_set (slice_index_or choice k e)).1 (k, l, any_default choice k (slice_index_or choice k e) e l)))
 
     by_others : (h : HalfSpace) → ¬ (OfSet points (with_point set 0) (IsTight h)) → IsTight h (point_at points 0)
         → ((k : ℕ) → k < length choice → IsTight h (point_at points (slice_index_or choice k 0))) ⊎
@@ -130,7 +132,7 @@ start_generates d points choice set gs is_set o inside some = record {
         → Any (IsCoveredBy points (with_point set 0) h) gs
     by_others h loose z (inl all) = absurd (loose (λ j l m. elim (member_split set 0 j m) [
       | inl s ↦ subst (λ (i : ℕ). IsTight h (point_at points i)) (sym s) z
-      | inr n ↦ (let c = (is_set j).0 n in subst (λ (i : ℕ). IsTight h (point_at points i)) (default_same choice c.0 0 j c.1 ∙ c.2) (all c.0 c.1))
+      | inr n ↦ (let c = (is_set j).0 n in subst (λ (i : ℕ). IsTight h (point_at points i)) (any_default choice c.0 0 j c.1 ∙ c.2) (all c.0 c.1))
     ]))
     by_others h loose z (inr s) =
         let a = o.others s.0 s.1 in (
@@ -169,7 +171,7 @@ pub opposites_more : (d : ℕ) (points : List (List ℤ)) (choice : List ℕ) (g
     → HasOpposites d points choice (k + 1) after
 opposites_more d points choice gs after k g l inside o h e = subst (HasOpposites d points choice (k + 1)) (sym e) (record {
   first = any_pushed (IsOpposite d points choice 0) gs g h.first;
-  others = λ j b. elim (same_or_not j k) [
+  others = λ j b. elim (cases_eq j k) [
     | inl s ↦ subst (λ (i : ℕ). Any (IsOpposite d points (slice_set choice i 0) (slice_index_or choice i 0)) (gs ++ g ∷ [])) (sym s)
         (let c = Contains-push gs g in (c.0, g, c.1, c.2, o))
     | inr n ↦ any_pushed (IsOpposite d points (slice_set choice j 0) (slice_index_or choice j 0)) gs g (h.others j (omega arith))

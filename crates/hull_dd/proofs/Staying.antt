@@ -1,6 +1,7 @@
 -- A generator that is tight at a further point, or has it inside, is a generator of the set with that point; and what a loop over the
 -- generators keeps.
-use Rattle.std.specs.Prelude.{◌≡◌, ℕ, zero, suc, ◌+◌, ◌*◌, ◌%◌, ◌^◌, ◌<◌, ◌≤◌, ℤ, pos, ◌≤ℤ◌, ◌<ℤ◌, ◌-ℤ◌, bit_or, List, [], ◌∷◌, ◌++◌, map, length, take, slice_index_or, All, Contains}
+use Rattle.std.specs.Prelude.{◌≡◌, ℕ, zero, suc, ◌+◌, ◌*◌, ◌%◌, ◌^◌, ◌<◌, ◌≤◌, ℤ, pos, ◌≤ℤ◌, ◌<ℤ◌, ◌-ℤ◌, bit_or, List, [], ◌∷◌, ◌++◌, map, length}
+use Rattle.std.specs.Prelude.{take, slice_index_or, All, Contains}
 use Rattle.std.specs.Int.{bit_at}
 use Rattle.std.specs.Int.Signed.{lt_z, lt_z_yes, lt_z_no}
 use Rattle.std.specs.Prelude.{Bool, true, false, not}
@@ -11,15 +12,17 @@ use Rattle.std.proofs.lemmas.List.{take_more, map-append}
 use Rattle.std.proofs.lemmas.List.Elements.{All-push, Contains-push, Contains-append_left}
 use Rattle.polynomials.specs.Small.{IsSmall, AreSmall}
 use Rattle.polynomials.proofs.SmallLaws.{small-back, small-sub, small-weaken}
-use Rattle.small_turn.proofs.RowLaws.{small-dot}
 use Rattle.iso_model.specs.Turns.{slack, dot, IsTight, Holds}
-use Rattle.halfspace.proofs.SlackLaws.{default_same}
 use Rattle.hull_dd.specs.declared.generators.Generator.{Generator}
 use Rattle.hull_dd.specs.Generators.{point_at, half_of, with_point, kept_with, IsGenerator}
 use Rattle.hull_dd.specs.Steps.{slacks_at, AreMeasured, IsJoined, HasInside, KeepsOnes, KeepsOnesWith}
-use Rattle.hull_dd.proofs.Bits.{same_or_not, shifted_one, point_added, member_stays, member_split}
+use Rattle.hull_dd.proofs.GeneratorBits.{point_added, member_stays, member_split}
 use Rattle.hull_dd.proofs.Signs.{zero_holds, above_holds, above_not_zero}
 use Rattle.hull_dd.proofs.Kept.{All-kept}
+use Rattle.small_turn.proofs.MatrixRows.{small-dot}
+use Rattle.lists.proofs.Contained.{any_default}
+use Rattle.lists.proofs.Bits.{shifted_one}
+use Rattle.std.proofs.lemmas.Bool.{cases_eq}
 
 -- the generator with one point more in its tight set, as the code sets its bit
 abbrev pub touched : {d : ℕ} → ℕ → Generator d → Generator d
@@ -201,15 +204,15 @@ InsideBelow {d} gs slacks next n = (k : ℕ) (e : Generator d) → k < n → pos
 pub inside_more : (d : ℕ) (gs : List (Generator d)) (slacks : List ℤ) (next : List (Generator d)) (n : ℕ) (g : Generator d) → n < length gs
     → g ≡ slice_index_or gs n g
     → InsideBelow gs slacks next n → InsideBelow gs slacks (next ++ g ∷ []) (n + 1)
-inside_more d gs slacks next n g l s h k e b p = elim (same_or_not k n) [
+inside_more d gs slacks next n g l s h k e b p = elim (cases_eq k n) [
   | inl z ↦ subst (λ (j : ℕ). Contains (next ++ g ∷ []) (slice_index_or gs j e)) (sym z)
-      (subst (Contains (next ++ g ∷ [])) (s ∙ default_same gs n g e l) (Contains-push next g))
+      (subst (Contains (next ++ g ∷ [])) (s ∙ any_default gs n g e l) (Contains-push next g))
   | inr z ↦ Contains-append_left next (g ∷ []) (slice_index_or gs k e) (h k e (omega arith) p)
 ]
 
 pub inside_same : (d : ℕ) (gs : List (Generator d)) (slacks : List ℤ) (next : List (Generator d)) (n : ℕ) → ¬ (pos 0 <ℤ slice_index_or slacks n (pos 0))
     → InsideBelow gs slacks next n → InsideBelow gs slacks next (n + 1)
-inside_same d gs slacks next n not h k e b p = elim (same_or_not k n) [
+inside_same d gs slacks next n not h k e b p = elim (cases_eq k n) [
   | inl z ↦ absurd (not (subst (λ (j : ℕ). pos 0 <ℤ slice_index_or slacks j (pos 0)) z p))
   | inr z ↦ h k e (omega arith) p
 ]

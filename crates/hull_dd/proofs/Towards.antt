@@ -1,6 +1,7 @@
 -- A half-space that holds the points so far, and that has a further point on one side off its boundary, is covered by a generator that has
 -- that point on the same side.
-use Rattle.std.specs.Prelude.{◌≡◌, ◌⊎◌, ℕ, zero, suc, ◌*◌, ◌<◌, ◌≤◌, ◌==◌, Bool, true, false, ◌&&◌, not, ℤ, pos, negsuc, nat_abs, ◌-ℤ◌, ◌*ℤ◌, ◌≤ℤ◌, ◌<ℤ◌, List, [], ◌∷◌, length, Any, Contains}
+use Rattle.std.specs.Prelude.{◌≡◌, ◌⊎◌, ℕ, zero, suc, ◌*◌, ◌<◌, ◌≤◌, ◌==◌, Bool, true, false, ◌&&◌, not, ℤ, pos, negsuc, nat_abs, ◌-ℤ◌, ◌*ℤ◌, ◌≤ℤ◌}
+use Rattle.std.specs.Prelude.{◌<ℤ◌, List, [], ◌∷◌, length, Any, Contains}
 use Rattle.std.specs.Int.{bit_at}
 use Rattle.std.proofs.Common.{refl, sym, ap, ◌∙◌, subst, arith, inl, inr}
 use Rattle.std.proofs.lemmas.Bool.{false≢true}
@@ -8,23 +9,21 @@ use Rattle.std.proofs.lemmas.Bool.Decides.{nat_tests}
 use Rattle.std.proofs.lemmas.Int.{ints}
 use Rattle.polynomials.proofs.Ring.{ring, var, con, ◌⊖◌, ◌⊗◌}
 use Rattle.iso_model.specs.Turns.{HalfSpace, slack, Holds, IsTight, same_int}
-use Rattle.halfspace.proofs.SetNumbers.{same_int-true, same_int-false}
 use Rattle.hull_dd.specs.declared.generators.Generator.{Generator}
 use Rattle.hull_dd.specs.Generators.{point_at, OfSet, combined, half_of, IsGenerator, IsCoveredBy, Generate}
 use Rattle.hull_dd.proofs.Signs.{above_or_not}
-use Rattle.hull_dd.proofs.Counts.{count, count-less}
+use Rattle.hull_dd.proofs.GeneratorCounts.{count, count-less}
 use Rattle.hull_dd.proofs.Ratios.{Least, AreNone, least}
 use Rattle.hull_dd.proofs.Combinations.{combined-slack, combined-wide}
+use Rattle.iso_model.proofs.PointLaws.{is-same_int}
+use Rattle.halfspace.proofs.TightNumbers.{same_int-false}
+use Rattle.polynomials.proofs.IntLaws.{nat_abs-zero}
 
 -- ---- signs
 
 held_value : (x : ℤ) → pos 0 ≤ℤ x → x ≡ pos (nat_abs x)
 held_value (pos n) h = refl
 held_value (negsuc n) h = absurd (omega (arith, ints))
-
-no_size : (x : ℤ) → nat_abs x ≡ 0 → x ≡ pos 0
-no_size (pos n) e = ap pos e
-no_size (negsuc n) e = absurd (omega arith)
 
 taken_holds : (k a m b : ℕ) → m * b ≤ k * a → pos 0 ≤ℤ (pos k *ℤ pos a -ℤ pos m *ℤ pos b)
 taken_holds k a m b h = omega (arith, ints)
@@ -83,12 +82,12 @@ loose_member points set h j e =
 
 loose_not_tight : (points : List (List ℤ)) (set : ℕ) (h : HalfSpace) (j : ℕ) → loose points set h j ≡ true → ¬ (IsTight h (point_at points j))
 loose_not_tight points set h j e t =
-    false≢true (sym (second_false (bit_at set j == 1) (same_int (slack h (point_at points j)) (pos 0)) e) ∙ same_int-true (slack h (point_at points j))
+    false≢true (sym (second_false (bit_at set j == 1) (same_int (slack h (point_at points j)) (pos 0)) e) ∙ is-same_int (slack h (point_at points j))
     (pos 0) t)
 
 tight_not_loose : (points : List (List ℤ)) (set : ℕ) (h : HalfSpace) (j : ℕ) → IsTight h (point_at points j) → loose points set h j ≡ false
 tight_not_loose points set h j t = none_true (bit_at set j == 1) (same_int (slack h (point_at points j)) (pos 0))
-    (same_int-true (slack h (point_at points j)) (pos 0) t)
+    (is-same_int (slack h (point_at points j)) (pos 0) t)
 
 -- ---- a generator is taken off as often as the half-space still holds the points
 
@@ -130,7 +129,7 @@ taken_off d points set h g wide holds gen covered = by_least (least set H G (len
         ∙ ap (λ (v : ℤ). pos k *ℤ pos (H j) -ℤ pos m *ℤ v) (held_value (slack (half_of g) (point_at points j)) (gen.holds j l b))
 
     by_least : AreNone set G (length points) ⊎ Least set H G (length points) → TakenOff points set h g
-    by_least (inl none) = absurd (gen.apart (λ j l b. no_size (slack (half_of g) (point_at points j)) (none j l b)))
+    by_least (inl none) = absurd (gen.apart (λ j l b. nat_abs-zero (slack (half_of g) (point_at points j)) (none j l b)))
     by_least (inr k) =
         let not_tight : ¬ (IsTight h (point_at points k.place)) = λ t.
         let z : G k.place ≡ 0 = ap nat_abs ((gen.touches k.place k.below k.member).0 (covered k.place k.below k.member t)) in
@@ -141,7 +140,7 @@ taken_off d points set h g wide holds gen covered = by_least (least set H G (len
           times_above = k.above;
           wide = combined-wide (pos (G k.place)) h (pos (H k.place)) (half_of g) d wide gen.wide;
           slacks = combined-slack (pos (G k.place)) h (pos (H k.place)) (half_of g) same_length;
-          off_above = (let n : ¬ (H k.place ≡ 0) = λ z. not_tight (no_size (slack h (point_at points k.place)) z) in omega arith);
+          off_above = (let n : ¬ (H k.place ≡ 0) = λ z. not_tight (nat_abs-zero (slack h (point_at points k.place)) z) in omega arith);
           holds = λ j l b. subst (λ (v : ℤ). pos 0 ≤ℤ v) (sym (value (G k.place) (H k.place) j l b))
               (taken_holds (G k.place) (H j) (H k.place) (G j) (k.least j l b));
           place = k.place;

@@ -1,5 +1,6 @@
 -- Generators of the half-spaces that hold a set of points. A set of points of a list is a number: bit j is set where point j is a member.
-use Rattle.std.specs.Prelude.{◌≡◌, ◌↔◌, ℕ, ◌^◌, ◌<◌, ◌==◌, Bool, ℤ, ◌-ℤ◌, ◌*ℤ◌, bit_and, bit_or, List, [], ◌∷◌, ◌++◌, map, filter, length, slice_index_or, All, Any, not, if◌then◌else◌}
+use Rattle.std.specs.Prelude.{◌≡◌, ◌↔◌, ℕ, ◌^◌, ◌<◌, ◌==◌, Bool, ℤ, ◌-ℤ◌, ◌*ℤ◌, bit_and, bit_or, List, [], ◌∷◌, ◌++◌, map, filter, length}
+use Rattle.std.specs.Prelude.{slice_index_or, All, Any, not, if◌then◌else◌}
 use Rattle.std.specs.Int.{bit_at}
 use Rattle.std.specs.List.{list_any}
 use Rattle.polynomials.specs.Small.{IsSmall, AreSmall}

@@ -6,39 +6,26 @@ use Rattle.std.proofs.lemmas.Bool.{cases_lt}
 use Rattle.std.proofs.lemmas.List.{length-map, get_or_append_left, get_or-append_right}
 use Rattle.std.proofs.lemmas.List.Elements.{All-nil, All-cons, All-head, All-tail, All-map, All-weaker, All-from_get_or}
 use Rattle.iso_model.specs.declared.Kind.{Kind}
-use Rattle.iso_model.specs.Orders.{exchange_last}
 use Rattle.iso_model.specs.Cells.{HasDimension, edge_count, label_count}
 use Rattle.iso_model.specs.Acceptance.{side_turn}
 use Rattle.iso_model.specs.Tables.{IsTuple, IsEntry, IsTable}
 use Rattle.iso_model.specs.Entries.{oriented, IsEntryOf}
-use Rattle.iso_model.proofs.Deciding.{All-from_each}
 use Rattle.iso_model.proofs.DimensionLaws.{is_small_cell, dimension_cases}
-use Rattle.cell_lattice.specs.Dimensions.{in_each_dimension}
 use Rattle.case_patch.proofs.PulledTuples.{tuple_wide, tuple_edges}
 use Rattle.table_make.specs.HullEntries.{AreHullEntries}
 use Rattle.table_make.proofs.Fewness.{IsDigits, few_tuples}
+use Rattle.lists.specs.Orders.{exchange_last}
+use Rattle.lists.proofs.Contained.{All-from_each}
+use Rattle.iso_model.specs.Dimensions.{in_each_dimension}
+use Rattle.lists.proofs.Sorting.{length-exchange, All-exchange_last}
 
 -- ---- an exchange of the last two places keeps what holds of each
-
-exchanged_length : (w : List ℕ) → length (exchange_last w) ≡ length w
-exchanged_length [] = refl
-exchanged_length (x ∷ []) = refl
-exchanged_length (x ∷ y ∷ []) = refl
-exchanged_length (x ∷ y ∷ z ∷ w) = ap suc (exchanged_length (y ∷ z ∷ w))
-
-exchanged_all : (P : ℕ → Type 0) (w : List ℕ) → All P w → All P (exchange_last w)
-exchanged_all P [] a = a
-exchanged_all P (x ∷ []) a = a
-exchanged_all P (x ∷ y ∷ []) a =
-    All-cons P y (x ∷ []) (All-head P y [] (All-tail P x (y ∷ []) a)) (All-cons P x [] (All-head P x (y ∷ []) a) (All-nil P))
-exchanged_all P (x ∷ y ∷ z ∷ w) a =
-    All-cons P x (exchange_last (y ∷ z ∷ w)) (All-head P x (y ∷ z ∷ w) a) (exchanged_all P (y ∷ z ∷ w) (All-tail P x (y ∷ z ∷ w) a))
 
 oriented_tuple : (kind : Kind) (d label : ℕ) (w : List ℕ) → IsTuple kind d w → IsTuple kind d (oriented kind d label w)
 oriented_tuple kind d label w t = by_test (int_lt (side_turn kind d label w (slice_index w 0)) (pos 0))
   where
     by_test : (b : Bool) → IsTuple kind d (if b then exchange_last w else w)
-    by_test true = (exchanged_length w ∙ t.0, exchanged_all (λ e. e < edge_count kind d) w t.1)
+    by_test true = (length-exchange w ∙ t.0, All-exchange_last (λ e. e < edge_count kind d) w t.1)
     by_test false = t
 
 -- ---- an entry

@@ -1,14 +1,14 @@
 use Rattle.std.proofs.Common.{◌≡◌, ◌+◌, ◌∙◌, ap, sym, List, ℕ, map, length, arith}
 use Rattle.iso_model.specs.declared.Kind.{Kind}
 use Rattle.iso_model.specs.declared.Kind.TheVariants.{Cube}
-use Rattle.iso_model.specs.Orders.{numbers}
 use Rattle.iso_model.specs.Entries.{label_edges, label_corners}
 use Rattle.iso_model.specs.Moves.{Move}
 use Rattle.cube_moves.proofs.OrderChecks.{few_axes}
 use Rattle.case_patch.specs.MovedPoints.{carried_among, AreCarriedNumbers}
 use Rattle.case_patch.proofs.CubeLabels.{cube_label, cube_edges_below, cube_corners_below, few_of}
 use Rattle.case_patch.proofs.LabelPoints.{points_length}
-use Rattle.case_patch.proofs.Lists.{if_ok}
+use Rattle.lists.specs.Orders.{numbers}
+use Rattle.std.proofs.lemmas.Result.{IfOk-weaker}
 use Rattle.case_patch.proofs.moved.carried_numbers.Goals as goal
 
 pub move_label-other-requires : goal.move_label-other-requires
@@ -59,7 +59,7 @@ returns g c =
     c.deref-3.ensures.value ∙ c.in_ok-to_edges.ensures ∙ ap (λ (q : Kind). label_edges q g.row.D c.move_label-other.result) c.requires.kind in
     let to_corners : c.deref-4.result.now ≡ label_corners Cube g.row.D c.move_label-other.result =
     c.deref-4.ensures.value ∙ c.in_ok-to_corners.ensures ∙ ap (λ (q : Kind). label_corners q g.row.D c.move_label-other.result) c.requires.kind in
-    if_ok c.numbers_among.result
+    IfOk-weaker c.numbers_among.result
     (λ list. list.items ≡ map (carried_among g.row.D by c.deref.result.now c.deref-2.result.now c.deref-3.result.now c.deref-4.result.now)
     (numbers (length c.deref.result.now + length c.deref-2.result.now)))
     (λ list. AreCarriedNumbers g.row.D c.args.by.now.axes c.args.by.now.flips c.args.label list.items)

@@ -1,7 +1,7 @@
 use Rattle.std.proofs.Common.{ℕ, ◌∷◌, ◌++◌, [], ◌∙◌, ap, sym, List, map}
-use Rattle.iso_model.specs.Orders.{numbers}
 use Rattle.case_patch.specs.MovedPoints.{carried_among}
-use Rattle.case_patch.proofs.Lists.{mapped_more}
+use Rattle.lists.specs.Orders.{numbers}
+use Rattle.case_patch.proofs.AppendedLists.{mapped_more}
 use Rattle.case_patch.proofs.moved.numbers_among.Goals as goal
 
 pub loop-point-preserved : goal.loop-point-preserved

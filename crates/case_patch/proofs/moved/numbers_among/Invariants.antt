@@ -1,6 +1,6 @@
 use Rattle.std.proofs.Common.{◌≡◌, map}
-use Rattle.iso_model.specs.Orders.{numbers}
 use Rattle.case_patch.specs.MovedPoints.{carried_among}
+use Rattle.lists.specs.Orders.{numbers}
 use Rattle.case_patch.proofs.moved.numbers_among.Given as goal
 
 -- the numbers of the points so far

@@ -2,7 +2,6 @@ use Rattle.std.proofs.Common.{◌≡◌, ◌∙◌, ap, sym, subst, map, length,
 use Rattle.std.proofs.lemmas.List.FromFn.{length-map-range_with_len}
 use Rattle.iso_model.specs.declared.Kind.{Kind}
 use Rattle.iso_model.specs.declared.Kind.TheVariants.{Cube}
-use Rattle.iso_model.specs.Orders.{numbers}
 use Rattle.iso_model.specs.Cells.{HasDimension}
 use Rattle.iso_model.specs.Entries.{label_points}
 use Rattle.iso_model.specs.Moves.{Move}
@@ -15,6 +14,7 @@ use Rattle.case_patch.proofs.CarriedFacets.{class_facets, numbers_small}
 use Rattle.case_patch.proofs.CubeLabels.{cube_label}
 use Rattle.case_patch.proofs.LabelPoints.{few_points, points_length}
 use Rattle.case_patch.proofs.Narrow.{bytes_fit}
+use Rattle.lists.specs.Orders.{numbers}
 use Rattle.case_patch.proofs.patches.patch_moved.Goals as goal
 
 pub carried_sets-requires-clause-members : goal.carried_sets-requires-clause-members

@@ -1,9 +1,9 @@
 use Rattle.std.proofs.Common.{◌≡◌, ℕ, ◌+◌, ◌<◌, arith, sym, subst, get_or, length}
-use Rattle.iso_model.specs.Orders.{orders}
 use Rattle.cube_moves.proofs.ExchangeChecks.{order_count, some_order}
 use Rattle.cube_moves.proofs.LeastLabels.{IsLeastSoFar, least_at_first, least_goes_on, least_stays, least_at_last}
 use Rattle.cube_moves.proofs.least.least_label.Goals as goal
 use Rattle.cube_moves.proofs.least.least_label.Goals.{then-other-least, else-other-least}
+use Rattle.lists.specs.Orders.{orders}
 
 pub loop-next-init : goal.loop-next-init
 loop-next-init g c =

@@ -2,12 +2,12 @@ use Rattle.std.proofs.Common.{◌≡◌, ◌<◌, ◌≤◌, ◌+◌, ◌^◌, �
 use Rattle.std.specs.Prelude.{true, false, ◌==◌}
 use Rattle.std.proofs.lemmas.Bool.{eq-eqb, ne_eqb}
 use Rattle.std.proofs.lemmas.Nat.Bits.{shr_and_one}
-use Rattle.iso_model.specs.Cells.{is_set}
 use Rattle.iso_model.specs.Moves.{Move}
 use Rattle.cube_moves.proofs.ExchangeChecks.{few_flips}
 use Rattle.cube_moves.proofs.LabelSteps.{IsMovedBelow, one_left_out, one_more_moved}
 use Rattle.cube_moves.proofs.moves.move_label.Goals as goal
 use Rattle.cube_moves.proofs.moves.move_label.Goals.{then-label-corner-eq1, else-label-corner-eq1}
+use Rattle.lists.specs.Bits.{is_set}
 
 pub loop-corner-preserved : goal.loop-corner-preserved
 loop-corner-preserved g c =

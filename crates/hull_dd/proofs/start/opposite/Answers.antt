@@ -8,12 +8,12 @@ use Rattle.polynomials.proofs.SmallLaws.{AreSmall-weaken}
 use Rattle.iso_model.specs.Turns.{HalfSpace, slack}
 use Rattle.iso_model.specs.Hulls.{members}
 use Rattle.halfspace.proofs.Bases.{members_all}
-use Rattle.halfspace.proofs.SlackLaws.{default_same}
-use Rattle.halfspace.proofs.Steps.{same_half}
 use Rattle.hull_dd.specs.Generators.{point_at, combined, plain}
 use Rattle.hull_dd.proofs.Staying.{not_less}
 use Rattle.hull_dd.proofs.Opposites.{this_side, other_side, same_plain}
 use Rattle.hull_dd.proofs.Products.{back}
+use Rattle.lists.proofs.Contained.{any_default}
+use Rattle.halfspace.proofs.FacetSteps.{same_half}
 use Rattle.hull_dd.proofs.start.opposite.Goals as goal
 
 pub hyper-half-requires : goal.hyper-half-requires
@@ -53,7 +53,7 @@ pub returns-then-distance-gt0 : goal.returns-then-distance-gt0
 returns-then-distance-gt0 g c =
     let d = distance (plain c.hyper-half.result) (point_at c.args.points.now c.args.apart) c.index-points-apart.result c.slack-distance.result
     (record { sfits = c.slack-distance.type_inv }) c.slack-distance.ensures
-    (c.index-points-apart.is ∙ default_same c.args.points.now c.args.apart c.index-points-apart.result [] c.requires.apart) in
+    (c.index-points-apart.is ∙ any_default c.args.points.now c.args.apart c.index-points-apart.result [] c.requires.apart) in
     this_side g.row.D c.args.points.now c.args.choice.now c.args.apart c.hyper-half.result c.set_of-tight.result
     (record {
       least = c.requires.least;
@@ -75,7 +75,7 @@ pub returns : goal.returns
 returns g c =
     let d = distance (plain c.hyper-half.result) (point_at c.args.points.now c.args.apart) c.index-points-apart.result c.slack-distance.result
     (record { sfits = c.slack-distance.type_inv }) c.slack-distance.ensures
-    (c.index-points-apart.is ∙ default_same c.args.points.now c.args.apart c.index-points-apart.result [] c.requires.apart) in
+    (c.index-points-apart.is ∙ any_default c.args.points.now c.args.apart c.index-points-apart.result [] c.requires.apart) in
     other_side g.row.D c.args.points.now c.args.choice.now c.args.apart c.hyper-half.result c.combination.result c.set_of-tight.result
     (record {
       least = c.requires.least;

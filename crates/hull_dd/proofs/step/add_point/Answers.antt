@@ -1,19 +1,19 @@
 -- What is kept are generators with the point, and the test tells that they are enough.
 use Rattle.std.proofs.Common.{◌≡◌, ◌∙◌, ℕ, ℤ, [], List, All, sym, ap, subst}
 use Rattle.std.proofs.lemmas.List.Elements.{All-nil}
-use Rattle.halfspace.proofs.SlackLaws.{default_same}
 use Rattle.hull_dd.specs.declared.generators.Generator.{Generator}
 use Rattle.hull_dd.specs.Generators.{point_at, with_point, IsGenerator, Generate}
 use Rattle.hull_dd.specs.Steps.{slacks_at, AreMeasured, AreWithin}
 use Rattle.hull_dd.proofs.Covering.{AreWithin-more}
-use Rattle.hull_dd.proofs.Steps.{next_generate}
+use Rattle.hull_dd.proofs.DescribeSteps.{next_generate}
+use Rattle.lists.proofs.Contained.{any_default}
 use Rattle.hull_dd.proofs.step.add_point.Given as given
 use Rattle.hull_dd.proofs.step.add_point.Goals as goal
 
 slacks_are : (g : given.Over) (c : goal.In_ok-stay g) → c.measure.new.slacks.items ≡ slacks_at (point_at c.args.points.now c.args.i) c.args.generators.now
 slacks_are g c =
     c.in_ok-measure.ensures.value
-    ∙ ap (λ (x : List ℤ). slacks_at x c.args.generators.now) (c.index-points-i.is ∙ default_same c.args.points.now c.args.i c.index-points-i.result []
+    ∙ ap (λ (x : List ℤ). slacks_at x c.args.generators.now) (c.index-points-i.is ∙ any_default c.args.points.now c.args.i c.index-points-i.result []
     c.requires.inside)
 
 measured : (g : given.Over) (c : goal.In_ok-stay g) (set : ℕ) → Generate g.row.D c.args.points.now set c.args.generators.now → (slacks : List ℤ)

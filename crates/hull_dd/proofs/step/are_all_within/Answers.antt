@@ -6,7 +6,10 @@ use Rattle.hull_dd.proofs.Covering.{within_with, on_more, pairs_more, all_within
 use Rattle.hull_dd.proofs.Staying.{not_above, not_zero_test}
 use Rattle.hull_dd.proofs.step.are_all_within.Given as given
 use Rattle.hull_dd.proofs.step.are_all_within.Goals as goal
-use Rattle.hull_dd.proofs.step.are_all_within.Goals.{else-slacks-k-eq0-via-then-slacks-k-eq0+else-not-is_within_some, else-slacks-k-eq0-via-else-slacks-k-eq0, else-slacks-k-gt0-via-then-slacks-k-gt0+else-not-are_meets_within, else-slacks-k-gt0-via-else-slacks-k-gt0}
+use Rattle.hull_dd.proofs.step.are_all_within.Goals.{else-slacks-k-eq0-via-then-slacks-k-eq0+else-not-is_within_some}
+use Rattle.hull_dd.proofs.step.are_all_within.Goals.{else-slacks-k-eq0-via-else-slacks-k-eq0}
+use Rattle.hull_dd.proofs.step.are_all_within.Goals.{else-slacks-k-gt0-via-then-slacks-k-gt0+else-not-are_meets_within}
+use Rattle.hull_dd.proofs.step.are_all_within.Goals.{else-slacks-k-gt0-via-else-slacks-k-gt0}
 
 on_here : (g : given.Over) (c : goal.Joined-else-slacks-k-gt0 g) → slice_index_or c.args.slacks.now c.loop-k.k (pos 0) ≡ pos 0
     → IsWithinSome (with_point c.index-generators-k.result.tight c.args.i) c.args.next.now

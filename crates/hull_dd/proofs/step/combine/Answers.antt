@@ -5,7 +5,8 @@ use Rattle.hull_dd.specs.Steps.{IsJoined, KeepsOnesWith}
 use Rattle.hull_dd.proofs.Products.{back}
 use Rattle.hull_dd.proofs.Staying.{join_more, tested_below, slack_back}
 use Rattle.hull_dd.proofs.step.combine.Goals as goal
-use Rattle.hull_dd.proofs.step.combine.Goals.{then-slacks-k-lt0+then-set+then-not-is_within_some+in-Some+in_ok-keep-in-Some, then-slacks-k-lt0+else-set, else-slacks-k-lt0}
+use Rattle.hull_dd.proofs.step.combine.Goals.{then-slacks-k-lt0+then-set+then-not-is_within_some+in-Some+in_ok-keep-in-Some}
+use Rattle.hull_dd.proofs.step.combine.Goals.{then-slacks-k-lt0+else-set, else-slacks-k-lt0}
 
 pub loop-k-preserved : goal.loop-k-preserved
 loop-k-preserved g c = elim c.if-slacks-k-lt0.branch [

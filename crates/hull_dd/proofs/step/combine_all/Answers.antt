@@ -3,7 +3,8 @@ use Rattle.std.proofs.Common.{ℤ, subst, arith}
 use Rattle.hull_dd.specs.Steps.{KeepsOnesWith}
 use Rattle.hull_dd.proofs.Staying.{join_all_more, tested_above, slack_back}
 use Rattle.hull_dd.proofs.step.combine_all.Goals as goal
-use Rattle.hull_dd.proofs.step.combine_all.Goals.{else-slacks-k-gt0-via-then-slacks-k-gt0+in_ok-combine+else-not-branch, else-slacks-k-gt0-via-else-slacks-k-gt0}
+use Rattle.hull_dd.proofs.step.combine_all.Goals.{else-slacks-k-gt0-via-then-slacks-k-gt0+in_ok-combine+else-not-branch}
+use Rattle.hull_dd.proofs.step.combine_all.Goals.{else-slacks-k-gt0-via-else-slacks-k-gt0}
 
 pub returns-then-not-branch : goal.returns-then-not-branch
 returns-then-not-branch g c =
