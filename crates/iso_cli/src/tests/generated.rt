@@ -5,6 +5,8 @@ use iso_base::Shelf;
 
 const CUBE: &str = "generate kind=cube dim=3";
 
+const HYPERCUBE: &str = "generate kind=cube dim=4";
+
 const PYRAMID: &str = "generate kind=pyramid dim=3";
 
 // A run over a shelf that is not to be touched.
@@ -80,7 +82,7 @@ fn tables_are_made_without_files(rt: HostRuntime) -> Result<(), Fail> {
 fn made(rt: &impl Abort, alloc: Global, line: &str) -> Result<Vec<u8>, Fail> {
     let words = words_of(alloc, line)?;
     let mut shelf = MemShelf::new(Vec::new(alloc), Vec::new(alloc), 1);
-    let mut out = MemSink::new(alloc, 10000, Vec::new(alloc), 10000)?;
+    let mut out = MemSink::new(alloc, 4_000_000, Vec::new(alloc), 65_536)?;
     let mut err = MemSink::new(alloc, 0, Vec::new(alloc), 1)?;
     let status = run(alloc, words.as_slice(), &mut shelf, &mut out, &mut err);
     assert_eq!(rt; status, Status::Done, "{line}");
@@ -92,6 +94,7 @@ fn made_tables_are_accepted(rt: HostRuntime) -> Result<(), Fail> {
     let lines = [
         "generate kind=cube dim=2",
         "generate kind=cube dim=3",
+        HYPERCUBE,
         "generate kind=simplex dim=2",
         "generate kind=simplex dim=3",
         "generate kind=simplex dim=4",
@@ -292,13 +295,28 @@ const ABOVE_CENTRE: &str = "OFF
 3 2 3 1
 ";
 
+const HYPERSPACE: &str = "NRRD0001\ntype: uint8\ndimension: 4\nsizes: 2 2 2 2\nencoding: raw\n\n";
+
+// The mesh round the first corner of a hypercube.
+const HYPERCORNER: &str = "nOFF
+4
+4 1 0
+0.500000 0.000000 0.000000 0.000000
+0.000000 0.500000 0.000000 0.000000
+0.000000 0.000000 0.500000 0.000000
+0.000000 0.000000 0.000000 0.500000
+4 0 1 2 3
+";
+
 #[test]
 fn made_tables_place_meshes(rt: HostRuntime) -> Result<(), Fail> {
     let alloc = rt.alloc();
     let cube = made(&rt, alloc, CUBE)?;
     let simplex = made(&rt, alloc, "generate kind=simplex dim=3")?;
     let pyramid = made(&rt, alloc, PYRAMID)?;
+    let hypercube = made(&rt, alloc, HYPERCUBE)?;
     let first = [10, 0, 0, 0, 0, 0, 0, 0];
+    let first_of_all = [10, 0, 0, 0, 0, 0, 0, 0, 0, 0, 0, 0, 0, 0, 0, 0];
     let opposite = [10, 0, 0, 0, 0, 0, 0, 10];
     let lower = [8, 0, 0, 0, 0, 0, 0, 0];
     let upper = [0, 0, 0, 0, 8, 0, 0, 0];
@@ -309,6 +327,12 @@ fn made_tables_place_meshes(rt: HostRuntime) -> Result<(), Fail> {
         (simplex.as_slice(), SPACE, first.as_slice(), TETRAHEDRA),
         (pyramid.as_slice(), SPACE, lower.as_slice(), BELOW_CENTRE),
         (pyramid.as_slice(), SPACE, upper.as_slice(), ABOVE_CENTRE),
+        (
+            hypercube.as_slice(),
+            HYPERSPACE,
+            first_of_all.as_slice(),
+            HYPERCORNER,
+        ),
     ];
     for (number, (table, header, samples, mesh)) in cases.into_iter().enumerate() {
         let case = Case {
