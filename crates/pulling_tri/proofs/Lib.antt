@@ -5,3 +5,4 @@ pub mod FaceSets
 pub mod PointSetLaws
 pub mod SetBits
 pub mod PulledTuples
+pub mod Narrower

@@ -2,6 +2,8 @@
 use Rattle.std.specs.Prelude.{◌≡◌, ◌≢◌, ◌↔◌, ◌==◌, ◌||◌, ◌&&◌, not, ℕ, Bool, List, map, filter, Contains, bit_and}
 use Rattle.std.specs.List.{list_all}
 use Rattle.std.specs.Int.{bit_at}
+use Rattle.pulling_tri.specs.PointSets.{point_set}
+use Rattle.pulling_tri.specs.Pulling.{AreNext}
 
 -- the meet of a set with some facet, where that is not the set itself
 abbrev pub IsMeet : List ℕ → ℕ → ℕ → Type 0
@@ -22,3 +24,7 @@ is_greatest meets meet = list_all (λ other. (other == meet) || not (bit_and mee
 -- the maximal ones of the meets that do not have this point
 abbrev pub maximal_without : List ℕ → ℕ → List ℕ
 maximal_without meets point = filter (λ meet. (bit_at meet point == 0) && is_greatest meets meet) meets
+
+-- the sets that may stand next in a chain, whichever the facets are of which these are the meets
+abbrev pub HasNext : List ℕ → ℕ → List ℕ → Type 0
+HasNext meets set faces = (facets : List ℕ) → AreMeets facets set meets → AreNext (Contains (map point_set facets)) (point_set set) (map point_set faces)

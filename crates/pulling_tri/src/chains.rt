@@ -6,7 +6,7 @@ ghost use Rattle.pulling_tri.specs.PointSets.{point_set, IsOneOf};
 ghost use Rattle.pulling_tri.specs.Pulling.{AddsPulled};
 ghost use Rattle.iso_model.specs.Dimensions.{IsDimension};
 
-use crate::faces::faces_without_first;
+use crate::faces::{faces_without_first, proper_meets};
 use crate::sets::{first_point, is_point};
 use iso_base::Memory;
 use std::alloc::Global;
@@ -48,9 +48,10 @@ fn go_on<const D: usize>(
         }
         return Ok(());
     }
-    let faces = faces_without_first(alloc, facets, set)?;
+    let meets = proper_meets(alloc, facets, set)?;
+    let faces = faces_without_first(alloc, &meets, set)?;
     for face in &faces {
-        go_on(alloc, facets, &longer, filled + 1, *face, simplices)?;
+        go_on(alloc, &meets, &longer, filled + 1, *face, simplices)?;
     }
     Ok(())
 }

@@ -1,9 +1,7 @@
 //! The faces of a set of points that miss its first vertex.
 
-ghost use Rattle.std.specs.Prelude.{◌≡◌, ◌<◌, map, IfOk, Contains};
-ghost use Rattle.pulling_tri.specs.PointSets.{point_set, IsOneOf};
-ghost use Rattle.pulling_tri.specs.Pulling.{AreNext};
-ghost use Rattle.pulling_tri.specs.Meets.{AreMeets, meets_in_turn, is_greatest, maximal_without};
+ghost use Rattle.std.specs.Prelude.{◌≡◌, ◌<◌, IfOk};
+ghost use Rattle.pulling_tri.specs.Meets.{AreMeets, HasNext, meets_in_turn, is_greatest, maximal_without};
 
 use crate::sets::{first_point, misses};
 use iso_base::Memory;
@@ -24,8 +22,8 @@ fn meets_with(alloc: Global, facets: &[u64], set: u64) -> Result<Vec<u64>, Memor
     }
 }
 
-// The same, each once.
-fn proper_meets(alloc: Global, facets: &[u64], set: u64) -> Result<Vec<u64>, Memory>
+// The same, each once. Of the parts of the set they are the same faces as the facets are.
+pub(crate) fn proper_meets(alloc: Global, facets: &[u64], set: u64) -> Result<Vec<u64>, Memory>
     ensures { IfOk result (λ meets. AreMeets facets.now set meets.items) }
 {
     let mut meets = meets_with(alloc, facets, set)?;
@@ -59,15 +57,14 @@ fn maximal_meets(alloc: Global, meets: &[u64], point: u8) -> Result<Vec<u64>, Me
     }
 }
 
-// The faces of a set that miss its first vertex.
+// The faces of a set that miss its first vertex, from its meets with the facets.
 pub(crate) fn faces_without_first(
     alloc: Global,
-    facets: &[u64],
+    meets: &[u64],
     set: u64,
 ) -> Result<Vec<u64>, Memory>
     requires { 0 < set }
-    ensures { IfOk result (λ faces. AreNext (IsOneOf facets.now) (point_set set) (map point_set faces.items)) }
+    ensures { IfOk result (λ faces. HasNext meets.now set faces.items) }
 {
-    let meets = proper_meets(alloc, facets, set)?;
-    maximal_meets(alloc, &meets, first_point(set))
+    maximal_meets(alloc, meets, first_point(set))
 }
