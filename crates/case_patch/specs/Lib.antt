@@ -3,3 +3,4 @@ pub mod Tuples
 pub mod SideRows
 pub mod MovedPoints
 pub mod FacetLists
+pub mod PointLists

@@ -1,8 +1,8 @@
 -- The rows whose turn tells the side of a tuple of edges, one by one.
-use Rattle.std.specs.Prelude.{ℕ, ◌+◌, ℤ, nat_lt, List, slice_index, if◌then◌else◌}
+use Rattle.std.specs.Prelude.{ℕ, ◌+◌, ℤ, nat_lt, List, map, slice_index, if◌then◌else◌}
 use Rattle.iso_model.specs.declared.Kind.{Kind}
 use Rattle.iso_model.specs.Cells.{corner_point, edge_midpoint}
-use Rattle.iso_model.specs.Turns.{difference}
+use Rattle.iso_model.specs.Turns.{difference, side_rows}
 use Rattle.iso_model.specs.Acceptance.{positive_end, negative_end}
 
 -- from the negative to the positive end of an edge
@@ -14,3 +14,7 @@ abbrev pub side_row : Kind → ℕ → ℕ → List ℕ → ℕ → List ℤ
 side_row kind d label w place =
     if nat_lt (place + 1) d then difference (edge_midpoint kind d (slice_index w (place + 1))) (edge_midpoint kind d (slice_index w 0))
     else direction kind d label (slice_index w 0)
+
+-- the rows, all of them
+abbrev pub rows_of : Kind → ℕ → ℕ → List ℕ → List (List ℤ)
+rows_of kind d label w = side_rows (map (edge_midpoint kind d) w) (direction kind d label (slice_index w 0))

@@ -4,8 +4,7 @@
 
 ghost use Rattle.std.specs.Prelude.{◌≡◌, ◌+◌, ◌-◌, ◌<◌, ◌≤◌, ◌++◌, ◌∷◌, [], nat_lt, if◌then◌else◌, All, IfOk, OnOk, length, map, filter, slice_index};
 ghost use Rattle.lists.specs.Orders.{numbers};
-ghost use Rattle.case_patch.specs.BoundarySets.{is_in_facet, is_off};
-ghost use Rattle.lists.specs.Bits.{is_set, set_number};
+ghost use Rattle.case_patch.specs.BoundarySets.{is_off, facet_set, is_of};
 
 use cell_lattice::Cell;
 use edge_sets::has_member;
@@ -23,7 +22,7 @@ fn is_point_of(
     requires edges { All (λ e. e < 32) edges.now }
     requires corners { All (λ k. k < 32) corners.now }
     requires point { point < length edges.now + length corners.now }
-    ensures { result ≡ (if nat_lt point (length edges.now) then is_set facet_edges (slice_index edges.now point) else is_set facet_corners (slice_index corners.now (point - length edges.now))) }
+    ensures { result ≡ is_of facet_edges facet_corners edges.now corners.now point }
 {
     if point < edges.len() {
         has_member(facet_edges, edges[point])
@@ -38,7 +37,7 @@ fn facet_points<C: Cell<D>, const D: usize>(facet: u8, edges: &[u8], corners: &[
     requires edges { All (λ e. e < C.EDGES) edges.now }
     requires corners { All (λ k. k < C.CORNERS) corners.now }
     requires few { length edges.now + length corners.now ≤ 48 }
-    ensures { result ≡ set_number (filter (is_in_facet C.KIND D edges.now corners.now facet) (numbers (length edges.now + length corners.now))) }
+    ensures { result ≡ facet_set C.KIND D edges.now corners.now facet }
 {
     let facet_edges = C::facet_edges(facet);
     let facet_corners = C::facet_mask(facet);
@@ -60,7 +59,7 @@ pub(crate) fn boundary_sets<C: Cell<D>, const D: usize>(
     requires edges { All (λ e. e < C.EDGES) edges.now }
     requires corners { All (λ k. k < C.CORNERS) corners.now }
     requires few { length edges.now + length corners.now ≤ 48 }
-    ensures { IfOk result (λ sets. sets.items ≡ map (λ f. set_number (filter (is_in_facet C.KIND D edges.now corners.now f) (numbers (length edges.now + length corners.now)))) (numbers C.FACETS)) }
+    ensures { IfOk result (λ sets. sets.items ≡ map (facet_set C.KIND D edges.now corners.now) (numbers C.FACETS)) }
 {
     let mut sets = Vec::new(alloc);
     for facet in 0..C::FACETS as u8 {

@@ -2,11 +2,10 @@
 
 ghost use Rattle.std.specs.Prelude.{◌≡◌, ◌↔◌, ℕ, ◌^◌, ◌<◌, ◌≤◌, ◌++◌, ◌∷◌, [], List, All, Contains, IfOk, IfSome, IfNone, OnOk, length, map};
 ghost use Rattle.iso_model.specs.declared.Kind.{Kind};
-ghost use Rattle.iso_model.specs.Entries.{IsEntryOf, IsPulledTuple, label_points};
+ghost use Rattle.iso_model.specs.Entries.{IsEntryOf, label_points};
 ghost use Rattle.iso_model.specs.Moves.{IsMove};
-ghost use Rattle.pulling_tri.specs.PointSets.{point_set};
 ghost use Rattle.case_patch.specs.FacetLists.{AreAllFacets, AreFacetsOfMoved};
-ghost use Rattle.case_patch.specs.Tuples.{Adds, IsNamed, IsTupleOf, IsOffTuple, IsTupleOfSome, IsOrdered};
+ghost use Rattle.case_patch.specs.Tuples.{Adds, IsNamed, IsOrdered, AddsOfSet, AddsOffSet, AreOffTuples, ArePulledTuples};
 ghost use Rattle.iso_model.specs.Dimensions.{IsDimension};
 
 use crate::boundary::{boundary_sets, lies_off};
@@ -70,7 +69,7 @@ fn add_facet<const D: usize>(
     tuples: &mut Vec<[u8; D]>,
 ) -> Result<(), Memory>
     requires { IsDimension D }
-    ensures { OnOk result (Adds (IsTupleOf (Contains (map point_set facets.now)) D edges.now (point_set facet)) tuples.old.items tuples.new.items) }
+    ensures { OnOk result (AddsOfSet facets.now D edges.now facet tuples.old.items tuples.new.items) }
 {
     let simplices = pull::<D>(alloc, facets, facet)?;
     for simplex in &simplices {
@@ -89,7 +88,7 @@ fn add_if_off<const D: usize>(
     tuples: &mut Vec<[u8; D]>,
 ) -> Result<(), Memory>
     requires { IsDimension D }
-    ensures { OnOk result (Adds (IsOffTuple (Contains (map point_set facets.now)) boundary.now D edges.now facet) tuples.old.items tuples.new.items) }
+    ensures { OnOk result (AddsOffSet facets.now boundary.now D edges.now facet tuples.old.items tuples.new.items) }
 {
     if lies_off(facet, boundary) {
         return add_facet(alloc, facets, facet, edges, tuples);
@@ -105,7 +104,7 @@ fn off_tuples<const D: usize>(
     edges: &[u8],
 ) -> Result<Vec<[u8; D]>, Memory>
     requires { IsDimension D }
-    ensures { IfOk result (λ tuples. Adds (IsTupleOfSome facets.now (Contains (map point_set facets.now)) boundary.now D edges.now) [] tuples.items) }
+    ensures { IfOk result (λ tuples. AreOffTuples facets.now boundary.now D edges.now tuples.items) }
 {
     let mut tuples = Vec::new(alloc);
     for facet in facets {
@@ -123,7 +122,7 @@ fn pulled_tuples<C: Cell<D>, const D: usize>(
 ) -> Result<Vec<[u8; D]>, Memory>
     requires label { label < 2 ^ C.CORNERS }
     requires facets { AreAllFacets D (label_points C.KIND D label) facets.now }
-    ensures { IfOk result (λ tuples. (tuple : List ℕ) → Contains tuples.items tuple ↔ IsPulledTuple C.KIND D label tuple) }
+    ensures { IfOk result (λ tuples. ArePulledTuples C.KIND D label tuples.items) }
 {
     let edges = bipolar_edges::<C, D>(alloc, label)?;
     let corners = positive_corners::<C, D>(alloc, label)?;

@@ -5,6 +5,7 @@ ghost use Rattle.iso_model.specs.Cells.{corner_point, edge_midpoint};
 ghost use Rattle.iso_model.specs.Bipolar.{is_bipolar_in};
 ghost use Rattle.iso_model.specs.Entries.{label_edges, label_corners};
 ghost use Rattle.cell_lattice.specs.Coordinates.{IsCoordinate};
+ghost use Rattle.case_patch.specs.PointLists.{points_of as points_at};
 
 use cell_lattice::Cell;
 use edge_sets::has_member;
@@ -104,7 +105,7 @@ pub(crate) fn points_of<C: Cell<D>, const D: usize>(
 ) -> Result<Vec<[i32; D]>, Memory>
     requires edges { All (λ e. e < C.EDGES) edges.now }
     requires corners { All (λ k. k < C.CORNERS) corners.now }
-    ensures { IfOk result (λ points. points.items ≡ map (λ e. map pos (edge_midpoint C.KIND D e)) edges.now ++ map (λ k. map (λ x. pos (2 * x)) (corner_point C.KIND D k)) corners.now) }
+    ensures { IfOk result (λ points. points.items ≡ points_at C.KIND D edges.now corners.now) }
 {
     let mut points = midpoints_of::<C, D>(alloc, edges)?;
     for corner in corners {

@@ -3,11 +3,10 @@
 ghost use Rattle.std.specs.Prelude.{◌≡◌, ◌<◌, All, map, slice_index};
 ghost use Rattle.polynomials.specs.Small.{AreSmall};
 ghost use Rattle.lists.specs.Orders.{exchange_last};
-ghost use Rattle.iso_model.specs.Cells.{edge_midpoint};
-ghost use Rattle.iso_model.specs.Turns.{minus, side_rows as side_rows_of};
+ghost use Rattle.iso_model.specs.Turns.{minus};
 ghost use Rattle.iso_model.specs.Acceptance.{side_turn};
 ghost use Rattle.iso_model.specs.Entries.{oriented as oriented_of};
-ghost use Rattle.case_patch.specs.SideRows.{side_row, direction};
+ghost use Rattle.case_patch.specs.SideRows.{side_row, direction, rows_of};
 ghost use Rattle.iso_model.specs.Dimensions.{IsDimension};
 
 use cell_lattice::Cell;
@@ -60,7 +59,7 @@ fn row<C: Cell<D>, const D: usize>(label: u32, tuple: &[u8; D], place: usize) ->
 // The rows whose turn tells the side of a simplex.
 fn rows<C: Cell<D>, const D: usize>(label: u32, tuple: &[u8; D]) -> [[i32; D]; D]
     requires { All (λ e. e < C.EDGES) tuple.now }
-    ensures value { result ≡ side_rows_of (map (edge_midpoint C.KIND D) tuple.now) (direction C.KIND D label (slice_index tuple.now 0)) }
+    ensures value { result ≡ rows_of C.KIND D label tuple.now }
     ensures small { All (λ row. AreSmall 64 row) result }
 {
     let mut rows = [[0; D]; D];

@@ -2,6 +2,7 @@
 use Rattle.std.specs.Prelude.{◌≡◌, ◌↔◌, ◌⊎◌, ◌+◌, ℕ, false, List, [], ◌∷◌, ◌++◌, map, length, Contains}
 use Rattle.lists.specs.Orders.{has}
 use Rattle.iso_model.specs.Hulls.{IsFaceOf, first_vertex}
+use Rattle.pulling_tri.specs.PointSets.{IsOneOf, point_set}
 
 -- a set that may stand next in a chain: a face of the set that misses its first vertex
 abbrev pub IsNext : (List ℕ → Type 0) → List ℕ → List ℕ → Type 0
@@ -26,6 +27,10 @@ pub record GoesOn (Facet : List ℕ → Type 0) (d : ℕ) (front set simplex : L
 -- the lists of first vertices along all chains that go on so are added to a list
 pub record AddsPulled (Facet : List ℕ → Type 0) (d : ℕ) (front set : List ℕ) (old new : List (List ℕ)) : Type 0 where
   pub each : (simplex : List ℕ) → Contains new simplex ↔ (Contains old simplex ⊎ GoesOn Facet d front set simplex)
+
+-- the same, where the sets of these numbers are the facets, and the set is that of a number
+abbrev pub AddsFrom : List ℕ → ℕ → List ℕ → ℕ → List (List ℕ) → List (List ℕ) → Type 0
+AddsFrom facets d front set old new = AddsPulled (IsOneOf facets) d front (point_set set) old new
 
 -- the same from each of some sets
 pub record AddsBelow (Facet : List ℕ → Type 0) (d : ℕ) (front : List ℕ) (sets : List (List ℕ)) (old new : List (List ℕ)) : Type 0 where

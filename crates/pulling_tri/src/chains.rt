@@ -3,7 +3,7 @@
 ghost use Rattle.std.specs.Prelude.{◌≡◌, ◌+◌, ◌∷◌, ◌++◌, ◌<◌, [], take, length, map, IfOk, OnOk, Contains};
 ghost use Rattle.iso_model.specs.Hulls.{ArePulled};
 ghost use Rattle.pulling_tri.specs.PointSets.{point_set, IsOneOf};
-ghost use Rattle.pulling_tri.specs.Pulling.{AddsPulled};
+ghost use Rattle.pulling_tri.specs.Pulling.{AddsFrom};
 ghost use Rattle.iso_model.specs.Dimensions.{IsDimension};
 
 use crate::faces::{faces_without_first, proper_meets};
@@ -33,7 +33,7 @@ fn go_on<const D: usize>(
 ) -> Result<(), Memory>
     requires dimension { IsDimension D }
     requires room { filled < D }
-    ensures { OnOk result (AddsPulled (IsOneOf facets.now) D (take filled firsts.now) (point_set set) simplices.old.items simplices.new.items) }
+    ensures { OnOk result (AddsFrom facets.now D (take filled firsts.now) set simplices.old.items simplices.new.items) }
 {
     if set == 0 {
         return Ok(());
