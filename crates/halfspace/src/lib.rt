@@ -71,10 +71,11 @@ mod tests {
         know_lengths(&square);
         assert_eq!(rt; points_at(&square, &[3, 1]), [[2, 2], [2, 0]]);
         let mut facets = Vec::new(rt.alloc());
-        // a side, a diagonal, a point twice, the side again, and another side
-        for choice in [[0, 1], [1, 2], [3, 3], [1, 0], [3, 2]] {
-            consider(&square, &choice, &mut facets).expect(&rt, "memory");
-        }
+        // a side, a diagonal, the side again, and another side
+        consider(&square, &[0, 1], &mut facets).expect(&rt, "memory");
+        consider(&square, &[1, 2], &mut facets).expect(&rt, "memory");
+        consider(&square, &[1, 0], &mut facets).expect(&rt, "memory");
+        consider(&square, &[3, 2], &mut facets).expect(&rt, "memory");
         assert_eq!(rt; facets.as_slice(), [3, 12].as_slice());
     }
 
