@@ -1,16 +1,18 @@
 -- The lists of edges of facets, and the places of faces on both sides of a seam.
-use Rattle.std.specs.Prelude.{◌≡◌, ℕ, zero, suc, ◌+◌, ◌-◌, ◌<◌, ◌≤◌, Bool, true, false, List, ◌∷◌, map, filter, length, All, nat_le}
+use Rattle.std.specs.Prelude.{◌≡◌, ℕ, zero, suc, ◌+◌, ◌-◌, ◌<◌, ◌≤◌, Bool, true, false, List, ◌∷◌, map, filter, length, nat_le}
 use Rattle.std.specs.Prelude.{if◌then◌else◌}
 use Rattle.std.specs.List.{range_with_len}
-use Rattle.std.proofs.Common.{refl, ap, ◌∙◌, arith, inl, inr}
+use Rattle.std.proofs.Common.{refl, sym, ap, ◌∙◌, arith, inl, inr}
 use Rattle.std.proofs.lemmas.Bool.{leb-true}
+use Rattle.std.proofs.lemmas.List.{length-map}
 use Rattle.iso_model.specs.declared.Kind.{Kind}
 use Rattle.lists.specs.Orders.{numbers, choices}
-use Rattle.iso_model.specs.Cells.{HasDimension, edge_count, edge_in_facet, facet_edges}
-use Rattle.iso_model.specs.Seams.{Seam, seams}
-use Rattle.cell_lattice.specs.Agreement.{agree_on}
+use Rattle.iso_model.specs.Cells.{HasDimension, edge_count, edge_in_facet, facet_count, facet_edges}
+use Rattle.iso_model.specs.Seams.{Seam, edge_across}
+use Rattle.cell_lattice.specs.Agreement.{agree}
 use Rattle.iso_model.specs.Dimensions.{IsDimension, of_each_cell}
 use Rattle.seam_traces.specs.Traces.{places}
+use Rattle.seam_traces.specs.SeamLists.{IsSeamOf}
 use Rattle.lists.specs.Bits.{is_set, set_number}
 use Rattle.lists.specs.Members.{In}
 use Rattle.lists.proofs.MemberLaws.{from_filter}
@@ -41,13 +43,25 @@ places_of_choices n edges = map (λ face. places edges (set_number face)) (choic
 abbrev pub face_places : Kind → ℕ → ℕ → List ℕ
 face_places kind d f = places_of_choices (d - 1) (facet_edges kind d f)
 
+-- the places of the faces in a facet are those of the choices of as many numbers
+places_by_count : (kind : Kind) (d : ℕ) → IsDimension d → HasDimension kind d → (f : ℕ) → f < facet_count kind d
+    → face_places kind d f ≡ places_of_choices (d - 1) (numbers (length (facet_edges kind d f)))
+places_by_count kind d is has =
+    agree (facet_count kind d) (face_places kind d) (λ f. places_of_choices (d - 1) (numbers (length (facet_edges kind d f))))
+    (of_each_cell
+    (λ k n.
+    map (face_places k n) (numbers (facet_count k n))
+    ≡ map (λ f. places_of_choices (n - 1) (numbers (length (facet_edges k n f)))) (numbers (facet_count k n)))
+    refl refl refl refl refl refl refl kind d is has)
+
 -- the faces on both sides of a seam have the same places
-pub seam_places : (kind : Kind) (d : ℕ) → IsDimension d → HasDimension kind d
-    → All (λ (s : Seam). face_places kind d s.facet ≡ face_places kind d s.other) (seams kind d)
-seam_places kind d is has =
-    agree_on (λ (s : Seam). face_places kind d s.facet) (λ (s : Seam). face_places kind d s.other) (seams kind d)
-    (of_each_cell (λ k n. map (λ (s : Seam). face_places k n s.facet) (seams k n) ≡ map (λ (s : Seam). face_places k n s.other) (seams k n)) refl refl
-    refl refl refl refl refl kind d is has)
+pub seam_places : (kind : Kind) (d : ℕ) → IsDimension d → HasDimension kind d → (s : Seam) → IsSeamOf kind d s
+    → face_places kind d s.facet ≡ face_places kind d s.other
+seam_places kind d is has s seam =
+    let count : length (facet_edges kind d s.facet) ≡ length (facet_edges kind d s.other) =
+    sym (length-map (facet_edges kind d s.facet) (edge_across kind d s)) ∙ ap (λ (l : List ℕ). length l) seam.edges in
+    places_by_count kind d is has s.facet seam.facet ∙ ap (λ n. places_of_choices (d - 1) (numbers n)) count
+    ∙ sym (places_by_count kind d is has s.other seam.other)
 
 -- ---- what the calls of a cell tell
 

@@ -2,6 +2,7 @@ pub mod Sets
 pub mod ChosenFaces
 pub mod Lookups
 pub mod FacetLists
+pub mod OwnSeams
 pub mod KeptTraces
 pub mod SeamRule
 pub mod GatheredSteps

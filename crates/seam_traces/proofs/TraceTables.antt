@@ -1,18 +1,17 @@
 -- What is kept of the labels of a table tells how they compare, and so whether a label keeps the rule of seams.
-use Rattle.std.specs.Prelude.{◌≡◌, ◌↔◌, ℕ, ℤ, suc, ◌+◌, ◌*◌, ◌^◌, ◌<◌, ◌≤◌, Bool, true, false, List, [], ◌∷◌, map, filter, length, All, slice_index_or}
-use Rattle.std.specs.List.{list_all}
+use Rattle.std.specs.Prelude.{◌≡◌, ◌↔◌, ℕ, ℤ, zero, suc, ◌+◌, ◌*◌, ◌^◌, ◌<◌, ◌≤◌, Bool, true, false, ◌&&◌, List, [], ◌∷◌, map, filter, length, All}
+use Rattle.std.specs.Prelude.{slice_index_or}
 use Rattle.std.proofs.Common.{get_or, refl, sym, ap, ◌∙◌, subst, arith, inl, inr}
 use Rattle.std.proofs.lemmas.Bool.{cases_eq, cases_lt, and_from}
 use Rattle.std.proofs.lemmas.Nat.{pow-add}
 use Rattle.iso_model.specs.declared.Kind.{Kind}
 use Rattle.lists.specs.Orders.{numbers}
 use Rattle.iso_model.specs.Cells.{HasDimension, corner_count, edge_count, facet_count, corner_in_facet, edge_in_facet, facet_corners, label_count}
-use Rattle.iso_model.specs.Seams.{Seam, seam, seams, corner_across}
+use Rattle.iso_model.specs.Seams.{Seam, corner_across}
 use Rattle.iso_model.specs.CellLaws.{MeetsCorners, KeepsEdges}
 use Rattle.iso_model.specs.Tables.{Table, entry_of}
 use Rattle.iso_model.specs.Acceptance.{rule_seams}
 use Rattle.iso_model.specs.Dimensions.{IsDimension}
-use Rattle.cell_lattice.specs.SeamTables.{seam_at}
 use Rattle.face_tallies.specs.declared.faces.FaceTally.{FaceTally}
 use Rattle.face_tallies.specs.Tallies.{AreTallies}
 use Rattle.seam_traces.specs.declared.facets.Facet.{Facet}
@@ -20,6 +19,8 @@ use Rattle.seam_traces.specs.declared.facets.Seen.{Seen}
 use Rattle.seam_traces.specs.declared.facets.Seen.TheVariants.{Never, Alike, Unlike}
 use Rattle.seam_traces.specs.Traces.{number_of_bits, places, pattern, trace, trace_across, keeps_seam}
 use Rattle.seam_traces.specs.TallyLists.{tallies_in, TellTrace}
+use Rattle.seam_traces.specs.declared.seams.FacetSeam.{FacetSeam}
+use Rattle.seam_traces.specs.SeamLists.{seam_of, seams_of, IsSeamOf, AreSeamsOf}
 use Rattle.seam_traces.specs.Kept.{seen_at, tallies_at, IsSound, pattern_on, tallies_on, TakesTallies, TakesLabel, EachTakesLabel, Matches, MatchesAt}
 use Rattle.seam_traces.specs.Kept.{IsFacetOf}
 use Rattle.seam_traces.specs.Kept.{AreFacetsOf, HaveTrace, HaveTwoTraces, TellsPattern, TellLabels, TellTable}
@@ -307,13 +308,7 @@ seam_law kind d t facets label tallies s x y is has tell seam are =
     (subst (λ n. SeamLaw t facets label tallies s x y t.kind n) tell.dimension_is (own_seam_law t facets label tallies s x y)) in
     law is has tell.labels seam are
 
--- ---- a seam by its number
-
-abbrev pub made_seam : ℕ → ℕ → Bool → Seam
-made_seam f g same = record { facet = f; other = g; same_parity = same }
-
-pub seam_is : (s : Seam) (f g : ℕ) (same : Bool) → f ≡ s.facet → g ≡ s.other → same ≡ s.same_parity → made_seam f g same ≡ s
-seam_is s f g same a b c = ap (λ k. made_seam k g same) a ∙ ap (λ k. made_seam s.facet k same) b ∙ ap (λ k. made_seam s.facet s.other k) c
+-- ---- a seam and its facets
 
 pub facet_read : (kind : Kind) (d f : ℕ) (facets : List Facet) (x : Facet) → AreFacetsOf kind d facets → f < facet_count kind d
     → x ≡ get_or facets f x → IsFacetOf kind d f x
@@ -323,16 +318,15 @@ pub sound_read : (kind : Kind) (d f : ℕ) (facets : List Facet) (x : Facet) →
     → f < facet_count kind d → x ≡ get_or facets f x → IsSound x
 sound_read kind d f facets x is has are less read = facet_sound kind d f x is has (facet_read kind d f facets x are less read)
 
-pub seam_read : (kind : Kind) (d n : ℕ) (facets : List Facet) (f g : ℕ) (same : Bool) (x y : Facet) → IsDimension d → HasDimension kind d
-    → All (MeetsCorners kind d) (seams kind d) → All (KeepsEdges kind d) (seams kind d) → n < length (seams kind d) → made_seam f g same ≡ seam_at kind d n
-    → f < facet_count kind d → g < facet_count kind d → IsFacetOf kind d f x → IsFacetOf kind d g y → x ≡ get_or facets f x → y ≡ get_or facets g y
-    → IsSeam kind d facets (made_seam f g same) x y
-seam_read kind d n facets f g same x y is has corners edges less e in_f in_g facet other read_x read_y = record {
-  corners = subst (MeetsCorners kind d) (sym e) (corners n (seam 0 0 false) less);
-  edges = subst (KeepsEdges kind d) (sym e) (edges n (seam 0 0 false) less);
-  places = subst (λ (s : Seam). face_places kind d s.facet ≡ face_places kind d s.other) (sym e) (seam_places kind d is has n (seam 0 0 false) less);
-  in_facets = in_f;
-  other_in_facets = in_g;
+pub seam_read : (kind : Kind) (d : ℕ) (facets : List Facet) (s : Seam) (x y : Facet) → IsDimension d → HasDimension kind d → IsSeamOf kind d s
+    → IsFacetOf kind d s.facet x → IsFacetOf kind d s.other y → x ≡ get_or facets s.facet x → y ≡ get_or facets s.other y
+    → IsSeam kind d facets s x y
+seam_read kind d facets s x y is has seam facet other read_x read_y = record {
+  corners = seam.corners;
+  edges = seam.edges;
+  places = seam_places kind d is has s seam;
+  in_facets = seam.facet;
+  other_in_facets = seam.other;
   facet = facet;
   other = other;
   read = read_x;
@@ -341,10 +335,28 @@ seam_read kind d n facets f g same x y is has corners edges less e in_f in_g fac
 
 -- ---- all seams
 
-seams_at : (p : Seam → Bool) (ss : List Seam) (d : Seam) → ((k : ℕ) → k < length ss → p (slice_index_or ss k d) ≡ true) → list_all p ss ≡ true
-seams_at p [] d h = refl
-seams_at p (s ∷ ss) d h = and_from (p s) (list_all p ss) (h 0 (omega arith)) (seams_at p ss d (λ k less. h (suc k) (omega arith)))
+pub keeps_all : (t : Table) (label : ℕ) (ss : List FacetSeam) (x : FacetSeam)
+    → ((k : ℕ) → k < length ss → keeps_seam t label (seam_of (slice_index_or ss k x)) ≡ true) → rule_seams (seams_of ss) t label ≡ true
+keeps_all t label [] x h = refl
+keeps_all t label (s ∷ ss) x h =
+    and_from (keeps_seam t label (seam_of s)) (rule_seams (seams_of ss) t label) (h 0 (omega arith))
+    (keeps_all t label ss x (λ k less. h (suc k) (omega arith)))
 
-pub keeps_all : (kind : Kind) (d : ℕ) (t : Table) (label : ℕ) → ((k : ℕ) → k < length (seams kind d) → keeps_seam t label (seam_at kind d k) ≡ true)
-    → rule_seams (seams kind d) t label ≡ true
-keeps_all kind d t label h = seams_at (keeps_seam t label) (seams kind d) (seam 0 0 false) h
+and_no : (b : Bool) → (b && false) ≡ false
+and_no true = refl
+and_no false = refl
+
+-- a label that fails at one of the seams fails the rule over them
+pub fails_one : (t : Table) (label : ℕ) (ss : List FacetSeam) (k : ℕ) (x : FacetSeam) → k < length ss
+    → keeps_seam t label (seam_of (slice_index_or ss k x)) ≡ false → rule_seams (seams_of ss) t label ≡ false
+fails_one t label [] k x less f = absurd (omega arith)
+fails_one t label (s ∷ ss) zero x less f = ap (λ b. b && rule_seams (seams_of ss) t label) f
+fails_one t label (s ∷ ss) (suc k) x less f =
+    ap (λ b. keeps_seam t label (seam_of s) && b) (fails_one t label ss k x (omega arith) f) ∙ and_no (keeps_seam t label (seam_of s))
+
+-- each seam of a list of seams of the cell is one
+pub seam_said : (kind : Kind) (d : ℕ) (ss : List FacetSeam) (k : ℕ) (x : FacetSeam) → AreSeamsOf kind d (seams_of ss) → k < length ss
+    → IsSeamOf kind d (seam_of (slice_index_or ss k x))
+seam_said kind d [] k x are less = absurd (omega arith)
+seam_said kind d (s ∷ ss) zero x are less = are 0 (seam_of x) (omega arith)
+seam_said kind d (s ∷ ss) (suc k) x are less = seam_said kind d ss k x (λ n y h. are (suc n) y (omega arith)) (omega arith)

@@ -1,3 +1,4 @@
 pub mod Traces
 pub mod TallyLists
 pub mod Kept
+pub mod SeamLists

@@ -13,9 +13,11 @@
 
 mod facets;
 mod places;
+mod seams;
 mod table_traces;
 #[cfg(test)]
 mod tests;
 mod walks;
 
+pub use seams::{FacetSeam, cell_seams};
 pub use table_traces::Traces;

@@ -1,13 +1,13 @@
 //! The traces of all labels of a table.
 
 ghost use Rattle.std.specs.Prelude.{◌≡◌, ◌<◌, slice_index_or, IfOk};
-ghost use Rattle.iso_model.specs.Seams.{seams};
 ghost use Rattle.iso_model.specs.Acceptance.{rule_seams};
-ghost use Rattle.cell_lattice.specs.SeamTables.{seam_at};
 ghost use Rattle.seam_traces.specs.Traces.{keeps_seam};
+ghost use Rattle.seam_traces.specs.SeamLists.{seam_of, seams_of, IsSeamOf, AreSeamsOf};
 ghost use Rattle.seam_traces.specs.Kept.{TellTable, InTables, IsSound, IsFacetOf};
 
 use crate::facets::{Facet, add_label, facets_of};
+use crate::seams::FacetSeam;
 use cell_lattice::Cell;
 use face_tallies::{FaceTally, TallyRoom, tally};
 use iso_base::Memory;
@@ -54,13 +54,14 @@ impl<C: Cell<D>, const D: usize> Traces<C, D> {
         })
     }
 
-    /// Whether a label keeps the rule of seams in the table of which these are the traces. `tallies` are those of the
-    /// label's tuples.
-    pub fn keeps_seams(&self, label: u32, tallies: &[FaceTally]) -> bool
-        ensures { InTables C.KIND D self.now label tallies.now (λ t. result ≡ rule_seams (seams C.KIND D) t label) }
+    /// Whether a label keeps the rule over these seams in the table of which these are the traces. `tallies` are those of
+    /// the label's tuples.
+    pub fn keeps_seams(&self, seams: &[FacetSeam], label: u32, tallies: &[FaceTally]) -> bool
+        requires { AreSeamsOf C.KIND D (seams_of seams.now) }
+        ensures { InTables C.KIND D self.now label tallies.now (λ t. result ≡ rule_seams (seams_of seams.now) t label) }
     {
-        for number in 0..C::SEAMS {
-            if !self.keeps_seam(number as u8, label, tallies) {
+        for seam in seams {
+            if !self.keeps_seam(*seam, label, tallies) {
                 return false;
             }
         }
@@ -68,11 +69,10 @@ impl<C: Cell<D>, const D: usize> Traces<C, D> {
     }
 
     /// Whether a label keeps the rule at one seam.
-    fn keeps_seam(&self, number: u8, label: u32, tallies: &[FaceTally]) -> bool
-        requires { number < C.SEAMS }
-        ensures { InTables C.KIND D self.now label tallies.now (λ t. result ≡ keeps_seam t label (seam_at C.KIND D number)) }
+    fn keeps_seam(&self, seam: FacetSeam, label: u32, tallies: &[FaceTally]) -> bool
+        requires { IsSeamOf C.KIND D (seam_of seam) }
+        ensures { InTables C.KIND D self.now label tallies.now (λ t. result ≡ keeps_seam t label (seam_of seam)) }
     {
-        let seam = C::seam(number);
         let facet = self.facet(seam.facet);
         let other = self.facet(seam.other);
         other.corresponds(facet, seam.same, label, tallies)

@@ -2,7 +2,7 @@
 
 ghost use Rattle.std.specs.Prelude.{◌≡◌};
 
-use crate::Traces;
+use crate::{Traces, cell_seams};
 use cell_lattice::{Cell, CubeCell, Kind, SimplexCell};
 use face_tallies::{TallyRoom, tally};
 use iso_base::Memory;
@@ -37,12 +37,13 @@ fn first_failing<C: Cell<D>, const D: usize>(
 ) -> Result<Option<u32>, Memory>
     requires { table.now.kind ≡ C.KIND }
 {
+    let seams = cell_seams::<C, D>(alloc)?;
     let traces = Traces::<C, D>::gather(alloc, table)?;
     let mut room = TallyRoom::new(alloc);
     let mut tallies = Vec::new(alloc);
     for label in 0..table.labels() {
         tally(table.tuples(label), &mut room, &mut tallies)?;
-        if !traces.keeps_seams(label, &tallies) {
+        if !traces.keeps_seams(&seams, label, &tallies) {
             return Ok(Some(label));
         }
     }

@@ -1,11 +1,16 @@
 -- What a table that is not certified comes back with.
-use Rattle.std.specs.Prelude.{◌≡◌, ℕ}
+use Rattle.std.specs.Prelude.{◌≡◌, ℕ, List}
+use Rattle.iso_model.specs.Seams.{Seam, seams}
 use Rattle.iso_model.specs.Tables.{Table}
-use Rattle.iso_model.specs.Acceptance.{IsRefusedAt}
+use Rattle.iso_model.specs.Acceptance.{IsRefusedOver}
 use Rattle.table_check.specs.declared.certified.CertifyFault.{CertifyFault}
 use Rattle.table_check.specs.declared.certified.CertifyFault.TheVariants.{Refused, Memory}
 
--- the table is handed back as it was: refused at a label and a rule, or unchecked for want of memory
+-- the table is handed back as it was: refused over these seams at a label and a rule, or unchecked for want of memory
+abbrev pub HandsBackOver : {D : ℕ} → List Seam → Table → CertifyFault D → Type 0
+HandsBackOver ss t (Refused back label rule) = (back ≡ t) × IsRefusedOver ss t label rule
+HandsBackOver ss t (Memory back) = back ≡ t
+
+-- the same over the seams of its own kind and dimension
 abbrev pub HandsBack : {D : ℕ} → Table → CertifyFault D → Type 0
-HandsBack t (Refused back label rule) = (back ≡ t) × IsRefusedAt t label rule
-HandsBack t (Memory back) = back ≡ t
+HandsBack t fault = HandsBackOver (seams t.kind t.dimension) t fault

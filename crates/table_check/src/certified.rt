@@ -4,6 +4,7 @@ ghost use Rattle.std.specs.Prelude.{◌≡◌, IfOk, IfErr};
 ghost use Rattle.iso_model.specs.Tables.{IsTable};
 ghost use Rattle.iso_model.specs.Acceptance.{IsAccepted};
 ghost use Rattle.table_check.specs.Handed.{HandsBack};
+ghost use Rattle.table_check.specs.Verdicts.{IsVerdictOn};
 
 use crate::Verdict;
 use crate::labels::check;
@@ -70,7 +71,21 @@ pub fn certify<C: Cell<D>, const D: usize>(
     ensures checked { IfOk result (λ checked. checked ≡ table.entry) }
     ensures handed_back { IfErr result (HandsBack table.entry) }
 {
-    match check::<C, D>(alloc, &table) {
+    let verdict = check::<C, D>(alloc, &table);
+    by_verdict(table, verdict)
+}
+
+/// The table, where this is its verdict, as a checked one or handed back.
+pub(crate) fn by_verdict<C: Cell<D>, const D: usize>(
+    table: Table<D>,
+    verdict: Result<Verdict, Memory>,
+) -> Result<Checked<C, D>, CertifyFault<D>>
+    requires kind { table.kind ≡ C.KIND }
+    requires verdict { IfOk verdict (IsVerdictOn table) }
+    ensures checked { IfOk result (λ checked. checked ≡ table.entry) }
+    ensures handed_back { IfErr result (HandsBack table.entry) }
+{
+    match verdict {
         Ok(Verdict::Accepted) => Ok(Checked {
             table,
             cell: PhantomData,

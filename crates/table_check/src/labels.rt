@@ -1,11 +1,12 @@
 //! The check of all labels of a table.
 
-ghost use Rattle.std.specs.Prelude.{◌≡◌, ◌<◌, ◌≤◌, length, MatchOption, IfOk};
+ghost use Rattle.std.specs.Prelude.{◌≡◌, ◌<◌, ◌≤◌, length, IfOk};
 ghost use Rattle.iso_model.specs.Tables.{entry_of};
-ghost use Rattle.iso_model.specs.Acceptance.{rule};
+ghost use Rattle.iso_model.specs.Acceptance.{rule_over};
 ghost use Rattle.face_tallies.specs.Tallies.{AreTallies};
 ghost use Rattle.seam_traces.specs.Kept.{TellTable};
-ghost use Rattle.table_check.specs.Verdicts.{IsVerdictOn, KeepsAll, KeepsBelow, FailsFirst};
+ghost use Rattle.seam_traces.specs.SeamLists.{seams_of, AreSeamsOf};
+ghost use Rattle.table_check.specs.Verdicts.{IsVerdictOn, IsVerdictOver, IsVerdictBetween, KeepsBelow, IsFirstFailed};
 
 use crate::Verdict;
 use cell_lattice::Cell;
@@ -13,7 +14,7 @@ use face_tallies::{FaceTally, TallyRoom, keeps_faces, tally};
 use iso_base::Memory;
 use label_rules::Figures;
 use path_rule::keeps_path;
-use seam_traces::Traces;
+use seam_traces::{FacetSeam, Traces, cell_seams};
 use std::alloc::Global;
 use table_file::Table;
 
@@ -23,13 +24,48 @@ pub fn check<C: Cell<D>, const D: usize>(alloc: Global, table: &Table<D>) -> Res
     requires { table.now.kind ≡ C.KIND }
     ensures { IfOk result (IsVerdictOn table.now) }
 {
+    let _kind = table.kind();
+    let seams = cell_seams::<C, D>(alloc)?;
+    check_over::<C, D>(alloc, table, &seams)
+}
+
+/// The same with the rule of seams over these seams of the cell.
+pub(crate) fn check_over<C: Cell<D>, const D: usize>(
+    alloc: Global,
+    table: &Table<D>,
+    seams: &[FacetSeam],
+) -> Result<Verdict, Memory>
+    requires kind { table.now.kind ≡ C.KIND }
+    requires seams { AreSeamsOf C.KIND D (seams_of seams.now) }
+    ensures { IfOk result (IsVerdictOver (seams_of seams.now) table.now) }
+{
     let figures = Figures::<D>::of::<C>();
     let traces = Traces::<C, D>::gather(alloc, table)?;
+    judge(alloc, &figures, &traces, seams, table, 0, table.labels())
+}
+
+/// The verdict on the labels from `from` on and before `to`.
+pub(crate) fn judge<C: Cell<D>, const D: usize>(
+    alloc: Global,
+    figures: &Figures<D>,
+    traces: &Traces<C, D>,
+    seams: &[FacetSeam],
+    table: &Table<D>,
+    from: u32,
+    to: u32,
+) -> Result<Verdict, Memory>
+    requires cell { figures.now ≡ C.KIND }
+    requires kind { table.now.kind ≡ C.KIND }
+    requires seams { AreSeamsOf C.KIND D (seams_of seams.now) }
+    requires traces { TellTable C.KIND D table.now traces.now }
+    requires labels { to ≤ length table.now.entries }
+    ensures { IfOk result (IsVerdictBetween (seams_of seams.now) table.now from to) }
+{
     let mut room = TallyRoom::new(alloc);
     let mut tallies = Vec::new(alloc);
-    for label in 0..table.labels() {
+    for label in from..to {
         tally(table.tuples(label), &mut room, &mut tallies)?;
-        if let Some(rule) = first_failed(&figures, &traces, table, label, &tallies) {
+        if let Some(rule) = first_failed(figures, traces, seams, table, label, &tallies) {
             return Ok(Verdict::Refused { label, rule });
         }
     }
@@ -40,19 +76,21 @@ pub fn check<C: Cell<D>, const D: usize>(alloc: Global, table: &Table<D>) -> Res
 fn first_failed<C: Cell<D>, const D: usize>(
     figures: &Figures<D>,
     traces: &Traces<C, D>,
+    seams: &[FacetSeam],
     table: &Table<D>,
     label: u32,
     tallies: &[FaceTally],
 ) -> Option<u8>
     requires cell { figures.now ≡ C.KIND }
     requires kind { table.now.kind ≡ C.KIND }
+    requires seams { AreSeamsOf C.KIND D (seams_of seams.now) }
     requires label { label < length table.now.entries }
     requires tallies { AreTallies D (entry_of table.now label) tallies.now }
     requires traces { TellTable C.KIND D table.now traces.now }
-    ensures { MatchOption result (KeepsAll table.now label) (FailsFirst table.now label) }
+    ensures { IsFirstFailed (seams_of seams.now) table.now label result }
 {
     for number in 1..=6 {
-        if !keeps_rule(figures, traces, table, label, tallies, number) {
+        if !keeps_rule(figures, traces, seams, table, label, tallies, number) {
             return Some(number);
         }
     }
@@ -63,6 +101,7 @@ fn first_failed<C: Cell<D>, const D: usize>(
 fn keeps_rule<C: Cell<D>, const D: usize>(
     figures: &Figures<D>,
     traces: &Traces<C, D>,
+    seams: &[FacetSeam],
     table: &Table<D>,
     label: u32,
     tallies: &[FaceTally],
@@ -70,13 +109,14 @@ fn keeps_rule<C: Cell<D>, const D: usize>(
 ) -> bool
     requires cell { figures.now ≡ C.KIND }
     requires kind { table.now.kind ≡ C.KIND }
+    requires seams { AreSeamsOf C.KIND D (seams_of seams.now) }
     requires label { label < length table.now.entries }
     requires tallies { AreTallies D (entry_of table.now label) tallies.now }
     requires traces { TellTable C.KIND D table.now traces.now }
     requires first { 1 ≤ number }
     requires last { number ≤ 6 }
-    requires before { KeepsBelow table.now label number }
-    ensures { result ≡ rule table.now label number }
+    requires before { KeepsBelow (seams_of seams.now) table.now label number }
+    ensures { result ≡ rule_over (seams_of seams.now) table.now label number }
 {
     let _labels = table.labels();
     let tuples = table.tuples(label);
@@ -86,6 +126,6 @@ fn keeps_rule<C: Cell<D>, const D: usize>(
         3 => keeps_faces(figures.facets(), tallies),
         4 => figures.keeps_side(label, tuples),
         5 => keeps_path(figures.facets(), figures.bipolar(label), tuples),
-        _ => traces.keeps_seams(label, tallies),
+        _ => traces.keeps_seams(seams, label, tallies),
     }
 }
