@@ -1,2 +1,3 @@
 mod EmptyEntries
+mod OrderedSeams
 mod RuleOrder

@@ -3,6 +3,7 @@ use Rattle.std.specs.Prelude.{◌≡◌, ℕ, List}
 use Rattle.iso_model.specs.Seams.{Seam, seams}
 use Rattle.iso_model.specs.Tables.{Table}
 use Rattle.iso_model.specs.Acceptance.{IsRefusedOver}
+use Rattle.iso_model.specs.OrderedAcceptance.{ordered_seams}
 use Rattle.table_check.specs.declared.certified.CertifyFault.{CertifyFault}
 use Rattle.table_check.specs.declared.certified.CertifyFault.TheVariants.{Refused, Memory}
 
@@ -14,3 +15,7 @@ HandsBackOver ss t (Memory back) = back ≡ t
 -- the same over the seams of its own kind and dimension
 abbrev pub HandsBack : {D : ℕ} → Table → CertifyFault D → Type 0
 HandsBack t fault = HandsBackOver (seams t.kind t.dimension) t fault
+
+-- the same over the ordered seams
+abbrev pub HandsBackInOrder : {D : ℕ} → Table → CertifyFault D → Type 0
+HandsBackInOrder t fault = HandsBackOver ordered_seams t fault

@@ -3,6 +3,7 @@ use Rattle.std.specs.Prelude.{ℕ, ◌<◌, ◌≤◌, List, Option, MatchOption
 use Rattle.iso_model.specs.Seams.{Seam, seams}
 use Rattle.iso_model.specs.Tables.{Table}
 use Rattle.iso_model.specs.Acceptance.{KeepsOver, IsAcceptedOver, IsRefusedOver}
+use Rattle.iso_model.specs.OrderedAcceptance.{ordered_seams}
 use Rattle.table_check.specs.declared.verdicts.Verdict.{Verdict}
 use Rattle.table_check.specs.declared.verdicts.Verdict.TheVariants.{Accepted, Refused}
 
@@ -14,6 +15,10 @@ IsVerdictOver ss t (Refused label rule) = IsRefusedOver ss t label rule
 -- the verdict on a table over the seams of its own kind and dimension
 abbrev pub IsVerdictOn : Table → Verdict → Type 0
 IsVerdictOn t verdict = IsVerdictOver (seams t.kind t.dimension) t verdict
+
+-- the verdict on a table over the ordered seams
+abbrev pub IsVerdictInOrder : Table → Verdict → Type 0
+IsVerdictInOrder t verdict = IsVerdictOver ordered_seams t verdict
 
 -- the label keeps each rule
 abbrev pub KeepsAll : List Seam → Table → ℕ → Type 0

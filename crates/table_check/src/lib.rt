@@ -7,6 +7,7 @@
 mod certified;
 mod labels;
 mod laws;
+mod ordered;
 #[cfg(test)]
 mod tests;
 mod verdicts;
@@ -14,4 +15,5 @@ mod verdicts;
 pub use certified::{CertifyFault, Checked, certify};
 pub use labels::check;
 pub use laws::empty_ends_law;
+pub use ordered::{OrderedChecked, certify_ordered, check_ordered};
 pub use verdicts::Verdict;

@@ -1,6 +1,6 @@
 //! Tables of squares and simplices, and spoiled ones.
 
-use crate::{CertifyFault, Verdict, certify, check};
+use crate::{CertifyFault, Verdict, certify, certify_ordered, check, check_ordered};
 use cell_lattice::{CubeCell, SimplexCell};
 use std::alloc::Global;
 use std::test::Fail;
@@ -150,6 +150,46 @@ fn tables_are_certified_or_handed_back(rt: HostRuntime) -> Result<(), Fail> {
             Ok(checked) => assert!(rt; second == 0 && checked.table().labels() == 16),
             Err(CertifyFault::Refused { table, label, rule }) => {
                 assert_eq!(rt; (second, label, rule), (1, 1, 4));
+                assert_eq!(rt; table.labels(), 16);
+            }
+            Err(CertifyFault::Memory { table: _table }) => return Err("no memory".into()),
+        }
+    }
+    Ok(())
+}
+
+#[test]
+fn tables_are_certified_for_ordered_simplices(rt: HostRuntime) -> Result<(), Fail> {
+    let alloc = rt.alloc();
+    // the table, that with the other diagonal in label 3, and that with a tuple of label 3 twice
+    let cases = [
+        ([0, 0, 0, 2, 1, 4, 2, 1, 3, 4].as_slice(), Verdict::Accepted),
+        ([0, 0, 0, 2, 1, 3, 2, 2, 3, 4].as_slice(), Verdict::Accepted),
+        (
+            [0, 0, 0, 3, 1, 4, 2, 1, 3, 4, 1, 3, 4].as_slice(),
+            refused(1, 6),
+        ),
+    ];
+    for (entry, verdict) in cases {
+        let mut bytes = Vec::from_slice(alloc, &TETRAHEDRON[..34])?;
+        bytes.extend_from_slice(entry)?;
+        bytes.extend_from_slice(&TETRAHEDRON[44..])?;
+        if bytes.len() > 1 << 30 {
+            return Err("too many bytes".into());
+        }
+        let AnyTable::T3(table) = decode(alloc, &bytes)? else {
+            return Err("no table of three dimensions".into());
+        };
+        if table.kind() != Kind::Simplex {
+            return Err("no table of the simplex".into());
+        }
+        assert_eq!(rt; check_ordered(alloc, &table)?, verdict);
+        match certify_ordered(alloc, table) {
+            Ok(checked) => {
+                assert!(rt; verdict == Verdict::Accepted && checked.table().labels() == 16);
+            }
+            Err(CertifyFault::Refused { table, label, rule }) => {
+                assert_eq!(rt; verdict, refused(label, rule));
                 assert_eq!(rt; table.labels(), 16);
             }
             Err(CertifyFault::Memory { table: _table }) => return Err("no memory".into()),
