@@ -1,4 +1,5 @@
 pub mod Appending
 pub mod FilesByName
+pub mod PartLaws
 pub mod SameShelf
 pub mod Taking
