@@ -9,7 +9,7 @@ use Rattle.iso_formats.specs.HeaderLines.{Line, line_bytes, is_filled, HasLines,
 use Rattle.iso_formats.specs.GridFile.{Header, SpellHeader, is_sound_line}
 use Rattle.iso_formats.specs.GridFaults.{GridFault, line_fault, content_fault, lines_fault, missing_fault, count_fault, all_fields}
 use Rattle.iso_formats.proofs.HeaderLaws.{header_of_lines}
-use Rattle.nrrd_raw.specs.declared.stated.Stated.{Stated}
+use Rattle.nrrd_raw.specs.declared.fields.stated.Stated.{Stated}
 use Rattle.nrrd_raw.specs.declared.faults.GridFault as fault
 use Rattle.nrrd_raw.specs.declared.faults.GridFault.TheVariants as variant
 use Rattle.nrrd_raw.specs.GridFaultWords.{is_header_fault, blame_of}

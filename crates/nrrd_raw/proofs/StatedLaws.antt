@@ -17,8 +17,8 @@ use Rattle.iso_formats.specs.HeaderLines as lines
 use Rattle.iso_formats.specs.HeaderLines.{Content, passed_over, named_field, unreadable, content, values, value_if, field_name, is_among, skip_names}
 use Rattle.iso_formats.specs.HeaderLines.{data_file_names, is_zero, is_taken, is_empty, first_some}
 use Rattle.iso_formats.specs.GridFaults.{content_fault, line_of}
-use Rattle.nrrd_raw.specs.declared.values.Sample.{Sample}
-use Rattle.nrrd_raw.specs.declared.values.Sizes as counted
+use Rattle.nrrd_raw.specs.declared.fields.values.Sample.{Sample}
+use Rattle.nrrd_raw.specs.declared.fields.values.Sizes as counted
 use Rattle.nrrd_raw.specs.Names.{sample_view, sizes_view}
 use Rattle.nrrd_raw.specs.States.{Reads, StatesValues, raw_of, raw_view}
 

@@ -12,8 +12,8 @@ use Rattle.iso_formats.specs.HeaderLines as lines
 use Rattle.iso_formats.specs.HeaderLines.{values, field_name, is_empty, first_some, is_first_line, is_raw}
 use Rattle.iso_formats.specs.GridFile.{SpellHeader, is_sound_line}
 use Rattle.iso_formats.specs.GridFaults.{GridFault, missing_fault, missing_field, count_fault, wrong_sizes, line_of, is_needed, stated_sample, first_value}
-use Rattle.nrrd_raw.specs.declared.values.Sample.{Sample}
-use Rattle.nrrd_raw.specs.declared.values.Sizes as counted
+use Rattle.nrrd_raw.specs.declared.fields.values.Sample.{Sample}
+use Rattle.nrrd_raw.specs.declared.fields.values.Sizes as counted
 use Rattle.nrrd_raw.specs.Shapes.{axes-stated, is_width}
 use Rattle.nrrd_raw.specs.Names.{sample_view, sizes_view}
 use Rattle.nrrd_raw.specs.States.{StatesValues}

@@ -1,8 +1,8 @@
 -- What a line says, and how its parts are found.
 use Rattle.std.specs.Str.{str_to_ascii_lowercase}
 use Rattle.iso_formats.specs.HeaderLines as lines
-use Rattle.nrrd_raw.specs.declared.content.Content.{Content}
-use Rattle.nrrd_raw.specs.declared.content.Content.TheVariants.{PassedOver, Field, Unreadable}
+use Rattle.nrrd_raw.specs.declared.lines.content.Content.{Content}
+use Rattle.nrrd_raw.specs.declared.lines.content.Content.TheVariants.{PassedOver, Field, Unreadable}
 
 -- a field's name is seen in lower case
 abbrev pub content_view : Content → lines.Content

@@ -3,10 +3,10 @@ use Rattle.std.specs.Prelude.{◌≡◌, ℕ, true, false, List, [], ◌∷◌, 
 use Rattle.iso_formats.specs.declared.Field.{Field}
 use Rattle.lists.specs.Orders.{same_list}
 use Rattle.iso_formats.specs.HeaderLines as lines
-use Rattle.nrrd_raw.specs.declared.values.Sample.{Sample}
-use Rattle.nrrd_raw.specs.declared.values.Sizes.{Sizes}
-use Rattle.nrrd_raw.specs.declared.words.Key.{Key}
-use Rattle.nrrd_raw.specs.declared.words.Key.TheVariants.{Skip, DataFile, Read, Other}
+use Rattle.nrrd_raw.specs.declared.fields.values.Sample.{Sample}
+use Rattle.nrrd_raw.specs.declared.fields.values.Sizes.{Sizes}
+use Rattle.nrrd_raw.specs.declared.fields.words.Key.{Key}
+use Rattle.nrrd_raw.specs.declared.fields.words.Key.TheVariants.{Skip, DataFile, Read, Other}
 
 -- the names of each sample type
 abbrev pub signed_8 : List (List ℕ)

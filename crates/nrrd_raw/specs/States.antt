@@ -8,9 +8,9 @@ use Rattle.iso_formats.specs.GridFaults.{line_of, content_fault, missing_fault, 
 use Rattle.iso_formats.specs.GridFaults as cause
 use Rattle.nrrd_raw.specs.declared.faults.GridFault.{GridFault}
 use Rattle.nrrd_raw.specs.FaultCauses.{cause_of}
-use Rattle.nrrd_raw.specs.declared.values.Sample.{Sample}
-use Rattle.nrrd_raw.specs.declared.values.Sizes as counted
-use Rattle.nrrd_raw.specs.declared.stated.Stated.{Stated}
+use Rattle.nrrd_raw.specs.declared.fields.values.Sample.{Sample}
+use Rattle.nrrd_raw.specs.declared.fields.values.Sizes as counted
+use Rattle.nrrd_raw.specs.declared.fields.stated.Stated.{Stated}
 use Rattle.nrrd_raw.specs.Names.{sample_view, sizes_view}
 
 -- a field is not there, or stands there once and is read as this

@@ -6,25 +6,18 @@
 //! first cause that its bytes have.
 #![tactic(auto)]
 
-mod content;
-mod decode;
 mod faults;
-mod fronts;
-mod grids;
-mod headers;
-mod judge;
+mod fields;
 mod lines;
-mod numerals;
 mod pieces;
 mod reading;
-mod stated;
+mod samples;
 #[cfg(test)]
 mod tests;
-mod values;
-mod words;
 
 pub use faults::GridFault;
-pub use grids::Grid;
-pub use headers::Header;
+pub use fields::headers::Header;
 pub use iso_formats::Field;
-pub use reading::{read_grid, read_header, read_samples};
+pub use reading::{read_grid, read_header};
+pub use samples::grids::Grid;
+pub use samples::reading::read_samples;

@@ -1,29 +1,24 @@
 //! Reading a grid file from a shelf.
 
-ghost use Rattle.std.specs.Prelude.{◌≡◌, ℕ, ◌++◌, IfSome, ◌+◌, ◌*◌, ◌≤◌, ◌<◌, ◌^◌, Result, Ok, Err, OnErr, IfOk, IfErr, OnOk, IsTrue, None, Some, All, length, vec_len, IsNone};
-ghost use Rattle.iso_model.specs.Values.{IsRegularGrid, product};
-ghost use Rattle.iso_formats.specs.GridFile.{IsRegularHeader, SpellsGrid, SpellsSamples, sample_limit, samples_of};
-ghost use Rattle.iso_formats.specs.GridFaults.{HasGridFault, HasHeaderFault, HasSampleFault};
+ghost use Rattle.std.specs.Prelude.{◌≡◌, ℕ, IfSome, ◌+◌, ◌^◌, IfOk, IfErr, OnOk, IsTrue, IsNone};
+ghost use Rattle.iso_model.specs.Values.{IsRegularGrid};
+ghost use Rattle.iso_formats.specs.GridFile.{IsRegularHeader, SpellsGrid};
+ghost use Rattle.iso_formats.specs.GridFaults.{HasGridFault, HasHeaderFault};
 ghost use Rattle.std.specs.Io.KnownBytes.{IsAtEnd};
 ghost use Rattle.iso_base.specs.Shelves.{IsSameShelf, IsFairBlame, TakesAtMost};
-ghost use Rattle.nrrd_raw.specs.FaultCauses.{ReadsSamples, ReadsMore, IsCutOff, IsDataFault, cause_of};
-ghost use Rattle.nrrd_raw.specs.GridFaultWords.{blame_of, is_header_fault, is_sample_fault, is_data_fault, is_piece_fault};
+ghost use Rattle.nrrd_raw.specs.FaultCauses.{cause_of};
+ghost use Rattle.nrrd_raw.specs.GridFaultWords.{blame_of, is_header_fault};
 ghost use Rattle.nrrd_raw.specs.Headers.{HeaderIsRead};
-ghost use Rattle.nrrd_raw.specs.Shapes.{InRange};
 
-use crate::decode::write_samples;
 use crate::faults::GridFault;
-use crate::fronts::take_front;
-use crate::grids::{Grid, SAMPLE_LIMIT, area};
-use crate::headers::Header;
-use crate::judge::header_of;
-use crate::pieces::{fill, take_byte};
+use crate::fields::headers::Header;
+use crate::fields::judge::header_of;
+use crate::lines::fronts::take_front;
+use crate::samples::grids::Grid;
+use crate::samples::reading::read_samples;
 use arrayvec::ArrayVec;
 use iso_base::Shelf;
 use std::alloc::Global;
-
-/// The bytes that are taken at a time, a number of whole samples of each width.
-const PIECE: usize = 1 << 16;
 
 /// Reads the header at the front of the rest of the file that was begun. Takes its bytes one at a time, and none
 /// behind its end. Takes no memory.
@@ -40,160 +35,6 @@ pub fn read_header<S: Shelf>(shelf: &mut S) -> Result<Header, GridFault>
     let mut front = ArrayVec::new();
     take_front(shelf, &mut front)?;
     header_of(&front)
-}
-
-/// Reads the samples that stand behind a header, up to the end of the file.
-pub fn read_samples<S: Shelf>(
-    alloc: Global,
-    shelf: &mut S,
-    header: &Header,
-) -> Result<Grid, GridFault>
-    requires { IsRegularHeader header.now }
-    ensures shelf { IsSameShelf S.faults S.files S.sound shelf.old shelf.new }
-    ensures blames { IfErr result (λ fault. IsFairBlame (S.faults shelf.old) (S.faults shelf.new) (blame_of fault)) }
-    ensures sound { S.sound shelf.old → IfErr result (λ fault. IsNone (blame_of fault)) }
-    ensures causes { IfErr result (λ fault. IsTrue (is_sample_fault fault)) }
-    ensures large_alone { sample_limit < product header.now.sizes → result ≡ Err (GridFault.TooLarge (product header.now.sizes)) }
-    ensures large_only { (count : ℕ) → result ≡ Err (GridFault.TooLarge count) → (sample_limit < product header.now.sizes) × (count ≡ product header.now.sizes) }
-    ensures untouched { sample_limit < product header.now.sizes → shelf.new ≡ shelf.old }
-    ensures taken { TakesAtMost (product header.now.sizes * header.now.width + 1) (S.rest shelf.old) (S.rest shelf.new) }
-    ensures sizes { IfOk result (λ grid. grid.sizes ≡ header.now.sizes) }
-    ensures spelled { IfSome (S.rest shelf.old) (λ bytes. IfOk result (SpellsSamples header.now bytes)) }
-    ensures cause { IfSome (S.rest shelf.old) (λ bytes. IfErr result (λ fault. IfSome (cause_of fault) (HasSampleFault header.now bytes))) }
-    ensures whole { OnOk result (IsAtEnd (S.rest shelf.new)) }
-    ensures regular { IfOk result IsRegularGrid }
-{
-    let count = sample_count(header);
-    if count > SAMPLE_LIMIT {
-        return Err(GridFault::TooLarge(count));
-    }
-    let samples = take_samples(alloc, shelf, header, count as usize)?;
-    Ok(Grid {
-        dims: header.dims,
-        sizes: header.sizes,
-        samples,
-    })
-}
-
-/// The product of the sizes.
-fn sample_count(header: &Header) -> u128
-    requires { IsRegularHeader header.now }
-    ensures { result ≡ product header.now.sizes }
-{
-    let sizes = &header.sizes;
-    area(sizes[0], sizes[1]) * area(sizes[2], sizes[3])
-}
-
-/// Takes so many samples, piece by piece, and sees that the file ends behind them.
-fn take_samples<S: Shelf>(
-    alloc: Global,
-    shelf: &mut S,
-    header: &Header,
-    count: usize,
-) -> Result<Vec<i64>, GridFault>
-    requires regular { IsRegularHeader header.now }
-    requires few { count ≤ 2 ^ 27 }
-    ensures shelf { IsSameShelf S.faults S.files S.sound shelf.old shelf.new }
-    ensures blames { IfErr result (λ fault. IsFairBlame (S.faults shelf.old) (S.faults shelf.new) (blame_of fault)) }
-    ensures sound { S.sound shelf.old → IfErr result (λ fault. IsNone (blame_of fault)) }
-    ensures causes { IfErr result (λ fault. IsTrue (is_data_fault fault)) }
-    ensures taken { TakesAtMost (count * header.now.width + 1) (S.rest shelf.old) (S.rest shelf.new) }
-    ensures count { IfOk result (λ samples. vec_len samples ≡ count) }
-    ensures range { IfOk result (λ samples. All InRange samples.items) }
-    ensures read { IfOk result (λ samples. ReadsSamples header.now (S.rest shelf.old) (S.rest shelf.new) count samples.items) }
-    ensures ended { OnOk result (IsAtEnd (S.rest shelf.new)) }
-    ensures cause { IfErr result (IsDataFault (count * header.now.width) (S.rest shelf.old) (S.rest shelf.new)) }
-{
-    let width = usize::from(header.width);
-    let mut piece = [0u8; PIECE];
-    let mut samples = Vec::new(alloc);
-    'pieces: while samples.len() < count {
-        let more = (PIECE / width).min(count - samples.len());
-        take_piece(
-            shelf,
-            header,
-            &mut piece[..more * width],
-            &mut samples,
-            more,
-            count,
-        )?;
-    }
-    match take_byte(shelf)? {
-        Some(_) => Err(GridFault::Trailing),
-        None => Ok(samples),
-    }
-}
-
-/// Fills `piece` with the bytes of `more` samples, and appends them. There are to be `count` in the end.
-fn take_piece<S: Shelf>(
-    shelf: &mut S,
-    header: &Header,
-    piece: &mut [u8],
-    samples: &mut Vec<i64>,
-    more: usize,
-    count: usize,
-) -> Result<(), GridFault>
-    requires regular { IsRegularHeader header.now }
-    requires whole { length piece.old ≡ more * header.now.width }
-    requires room { vec_len samples.old + more ≤ count }
-    requires few { count ≤ 2 ^ 27 }
-    ensures shelf { IsSameShelf S.faults S.files S.sound shelf.old shelf.new }
-    ensures blames { IfErr result (λ fault. IsFairBlame (S.faults shelf.old) (S.faults shelf.new) (blame_of fault)) }
-    ensures sound { S.sound shelf.old → IfErr result (λ fault. IsNone (blame_of fault)) }
-    ensures causes { IfErr result (λ fault. IsTrue (is_piece_fault fault)) }
-    ensures taken { TakesAtMost (length piece.new) (S.rest shelf.old) (S.rest shelf.new) }
-    ensures len { OnOk result (vec_len samples.new ≡ vec_len samples.old + more) }
-    ensures range { All InRange samples.old.items → OnOk result (All InRange samples.new.items) }
-    ensures read { OnOk result (ReadsMore header.now (S.rest shelf.old) (S.rest shelf.new) more samples.old.items samples.new.items) }
-    ensures cut { IfErr result (IsCutOff header.now (S.rest shelf.old) (S.rest shelf.new) (vec_len samples.old) more) }
-{
-    let width = usize::from(header.width);
-    let came = fill(shelf, piece)?;
-    if came < piece.len() {
-        return Err(GridFault::DataShort((samples.len() * width + came) as u64));
-    }
-    append(samples, header, piece, more, count)
-}
-
-/// Appends the samples of a piece, so many. There are to be `count` in the end.
-fn append(
-    samples: &mut Vec<i64>,
-    header: &Header,
-    piece: &[u8],
-    more: usize,
-    count: usize,
-) -> Result<(), GridFault>
-    requires regular { IsRegularHeader header.now }
-    requires whole { length piece.now ≡ more * header.now.width }
-    requires room { vec_len samples.old + more ≤ count }
-    ensures memory { IfErr result (λ fault. fault ≡ GridFault.Memory) }
-    ensures len { OnOk result (vec_len samples.new ≡ vec_len samples.old + more) }
-    ensures range { All InRange samples.old.items → OnOk result (All InRange samples.new.items) }
-    ensures items { OnOk result (samples.new.items ≡ samples.old.items ++ samples_of header.now more piece.now) }
-{
-    let start = samples.len();
-    make_room(samples, more, count)?;
-    if samples.resize(start + more, 0).is_err() {
-        return Err(GridFault::Memory);
-    }
-    write_samples(header, piece, &mut samples[start..]);
-    Ok(())
-}
-
-/// Makes room for `more` samples of `count` in the end: where there is none, twice the room, but no more than for all
-/// of them.
-fn make_room(samples: &mut Vec<i64>, more: usize, count: usize) -> Result<(), GridFault>
-    requires { vec_len samples.old + more ≤ count }
-    ensures memory { IfErr result (λ fault. fault ≡ GridFault.Memory) }
-    ensures items { samples.new.items ≡ samples.old.items }
-    ensures len { vec_len samples.new ≡ vec_len samples.old }
-{
-    let left = count - samples.len();
-    let room = samples.capacity().max(more).min(left);
-    if samples.capacity() - samples.len() < more && samples.reserve_exact(room).is_err() {
-        return Err(GridFault::Memory);
-    }
-    Ok(())
 }
 
 /// Reads a whole grid file that was begun: its header, and the samples behind it.

@@ -1,52 +1,31 @@
 //! Files, and what they give.
 
-ghost use Rattle.std.specs.Prelude.{None};
-
 use crate::{Field, Grid, GridFault, Header, read_grid, read_header, read_samples};
-use iso_base::{Failed, Shelf};
-use std::alloc::Global;
+use iso_base::{MemFile, MemShelf, Shelf};
+use std::alloc::{AllocError, Global};
 use std::process::Abort;
 use std::test::Fail;
 
-/// One file, which is given in parts of at most `step` bytes.
-#[derive(Drop)]
-struct OneFile<'a> {
-    bytes: &'a [u8],
-    step: usize,
-}
-
-impl Shelf for OneFile<'_> {
-    ghost files = { λ _. None };
-
-    ghost rest = { λ _. None };
-
-    ghost faults = { λ _. 0 };
-
-    ghost sound = { λ _. ⊥ };
-
-    fn begin(&mut self, _: &str) -> Result<(), Failed> {
-        Ok(())
-    }
-
-    fn take(&mut self, buf: &mut [u8]) -> Result<usize, Failed> {
-        let count = self.step.min(self.bytes.len()).min(buf.len());
-        buf[..count].copy_from_slice(&self.bytes[..count]);
-        self.bytes = &self.bytes[count..];
-        Ok(count)
-    }
-
-    ghost sound_tells = { λ _ none. absurd none };
-
-    ghost rest_told = { λ _. (λ h. h, λ h. h) };
+/// A shelf with one file, which is begun and given in parts of at most `step` bytes.
+fn shelf_of(alloc: Global, bytes: &[u8], step: usize) -> Result<MemShelf, AllocError> {
+    let mut files = Vec::new(alloc);
+    files.push(MemFile {
+        name: String::from_str(alloc, "grid.nrrd")?,
+        bytes: Vec::from_slice(alloc, bytes)?,
+    })?;
+    let mut shelf = MemShelf::new(files, Vec::new(alloc), step.max(1));
+    // No call is to fail, and the file is there.
+    let _ = shelf.begin("grid.nrrd");
+    Ok(shelf)
 }
 
 /// The steps in which each file is given.
 const STEPS: [usize; 2] = [1, 1 << 20];
 
-fn refusal(alloc: Global, bytes: &[u8], step: usize) -> Option<GridFault> {
-    match read_grid(alloc, &mut OneFile { bytes, step }) {
-        Ok(_) => None,
-        Err(fault) => Some(fault),
+fn refusal(alloc: Global, bytes: &[u8], step: usize) -> Result<Option<GridFault>, AllocError> {
+    match read_grid(alloc, &mut shelf_of(alloc, bytes, step)?) {
+        Ok(_) => Ok(None),
+        Err(fault) => Ok(Some(fault)),
     }
 }
 
@@ -61,7 +40,7 @@ fn all_refused(
         let text = format!(in alloc; "{front}{lines}")?;
         for step in STEPS {
             assert_eq!(rt;
-                refusal(alloc, text.as_bytes(), step),
+                refusal(alloc, text.as_bytes(), step)?,
                 Some(*fault),
                 "{text}"
             );
@@ -212,11 +191,7 @@ fn all_read(rt: &impl Abort, alloc: Global, cases: &[(&str, &[u8], &[i64])]) -> 
         let mut bytes = Vec::from_slice(alloc, lines.as_bytes())?;
         bytes.extend_from_slice(data)?;
         for step in STEPS {
-            let shelf = &mut OneFile {
-                bytes: &bytes,
-                step,
-            };
-            let grid = read_grid(alloc, shelf)?;
+            let grid = read_grid(alloc, &mut shelf_of(alloc, &bytes, step)?)?;
             assert_eq!(rt; grid.samples.as_slice(), *samples, "{lines}");
         }
     }
@@ -356,10 +331,7 @@ fn each_sample_name_is_read(rt: HostRuntime) -> Result<(), Fail> {
         let text = format!(in rt.alloc();
             "NRRD0003\ntype: {name}\ndimension: 3\nsizes: 5 6 7\nendian: big\nencoding: raw\n\nrest"
         )?;
-        let mut shelf = OneFile {
-            bytes: text.as_bytes(),
-            step: 1,
-        };
+        let mut shelf = shelf_of(rt.alloc(), text.as_bytes(), 8)?;
         let header = Header {
             dims: 3,
             sizes: [5, 6, 7, 1],
@@ -368,7 +340,9 @@ fn each_sample_name_is_read(rt: HostRuntime) -> Result<(), Fail> {
             big: width > 1,
         };
         assert_eq!(rt; read_header(&mut shelf), Ok(header), "{name}");
-        assert_eq!(rt; shelf.bytes, b"rest".as_slice());
+        let mut rest = [0; 8];
+        assert_eq!(rt; shelf.take(&mut rest), Ok(4));
+        assert_eq!(rt; &rest[..4], b"rest".as_slice());
     }
     Ok(())
 }
@@ -391,7 +365,7 @@ fn a_header_has_at_most_65_536_bytes(rt: HostRuntime) -> Result<(), Fail> {
         bytes.extend_from_slice(&comment)?;
         bytes.extend_from_slice(end.as_bytes())?;
         for step in STEPS {
-            assert_eq!(rt; refusal(rt.alloc(), &bytes, step), fault, "{fill}");
+            assert_eq!(rt; refusal(rt.alloc(), &bytes, step)?, fault, "{fill}");
         }
     }
     Ok(())
@@ -406,10 +380,7 @@ fn samples_are_read_behind_a_header(rt: HostRuntime) -> Result<(), Fail> {
         signed: true,
         big: false,
     };
-    let mut shelf = OneFile {
-        bytes: b"\x00\x7f\x80",
-        step: 2,
-    };
+    let mut shelf = shelf_of(rt.alloc(), b"\x00\x7f\x80", 2)?;
     let grid = read_samples(rt.alloc(), &mut shelf, &header)?;
     assert_eq!(rt; grid.dims, 2);
     assert_eq!(rt; grid.sizes, [1, 3, 1, 1]);

@@ -1,0 +1,6 @@
+use Rattle.std.proofs.Common.{rules}
+use Rattle.nrrd_raw.proofs.StatedLaws.{adds-type}
+use Rattle.nrrd_raw.proofs.fields.stated.Stated.with_sample_type.Goals as goal
+
+pub returns-clause-kept : goal.returns-clause-kept
+returns-clause-kept c = λ texts text e h n. adds-type c.args.self.sample _ _ _ _ _ texts text c.args.value.now c.args.number c.requires e (search rules) h
