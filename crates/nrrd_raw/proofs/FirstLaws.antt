@@ -44,12 +44,12 @@ no_beginning-return (Ok x) old now front before l e c u = tt
 no_beginning-return (Err k) old now front before l e c (inl s) = inl s
 no_beginning-return (Err k) old now front before l e c (inr w) = inr (w.0, wrong-return old now front l (subst (λ (bs : List ℕ). Consumes old now bs) e c) w.1)
 
-pub first-return : {X : Type 0} (r : Result X GridFault) (old now : Option (List ℕ)) (front before after : List ℕ) → FitsFirst front 8
+pub first-return : {X S : Type 0} (r : Result X GridFault) (rest : S → Option (List ℕ)) (old now : S) (front before after : List ℕ) → FitsFirst front 8
     → before ≡ front ++ 13 ∷ []
-    → OnOk r (TakesFitting old now 10 10 before after) → OnOk r (HasFront after (length after))
-first-return (Err k) old now front before after f e t = tt
-first-return (Ok x) old now front before after f e t =
-    let ten : t.byte ≡ 10 = omega (arith, t.low, t.high) in
+    → OnOk r (TakesFitting rest old now 10 10 before after) → OnOk r (HasFront after (length after))
+first-return (Err k) rest old now front before after f e t = tt
+first-return (Ok x) rest old now front before after f e t =
+    let ten : t.byte ≡ 10 = omega (arith, t.above, t.below) in
     let whole : after ≡ front ++ 13 ∷ 10 ∷ [] =
     t.pushed ∙ ap (λ (b : ℕ). before ++ b ∷ []) ten ∙ ap (λ zs. zs ++ 10 ∷ []) e ∙ append_assoc front (13 ∷ []) (10 ∷ []) in
     subst (λ (xs : List ℕ). HasFront xs (length xs)) (sym whole) (front-return front f)

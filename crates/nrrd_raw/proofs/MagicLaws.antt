@@ -260,10 +260,10 @@ front-return front f =
 
 -- ---- one byte more
 
-pub FitsFirst-more : (front after : List ℕ) (place : ℕ) (old new : Option (List ℕ)) → FitsFirst front place
-    → TakesFitting old new (get_or least_first place 0) (get_or greatest_first place 0) front after
+pub FitsFirst-more : {S : Type 0} (rest : S → Option (List ℕ)) (front after : List ℕ) (place : ℕ) (old new : S) → FitsFirst front place
+    → TakesFitting rest old new (get_or least_first place 0) (get_or greatest_first place 0) front after
     → FitsFirst after (place + 1)
-FitsFirst-more front after place old new f t = record {
+FitsFirst-more rest front after place old new f t = record {
   len = omega (arith, ap length t.pushed, length-append front (t.byte ∷ []), f.len);
   fits = λ k l. elim (cases_lt k place) [
     | inl below ↦
@@ -274,6 +274,6 @@ FitsFirst-more front after place old new f t = record {
         (let same : k ≡ place = omega arith in
         let at : get_or after k 0 ≡ t.byte = ap (λ (xs : List ℕ). get_or xs k 0) t.pushed ∙ byte_at front (t.byte ∷ []) place k f.len same in
         subst (λ (i : ℕ). (get_or least_first i 0 ≤ get_or after k 0) × (get_or after k 0 ≤ get_or greatest_first i 0)) (sym same)
-        (subst (λ (b : ℕ). (get_or least_first place 0 ≤ b) × (b ≤ get_or greatest_first place 0)) (sym at) (t.low, t.high)))
+        (subst (λ (b : ℕ). (get_or least_first place 0 ≤ b) × (b ≤ get_or greatest_first place 0)) (sym at) (t.above, t.below)))
   ];
 }

@@ -17,12 +17,12 @@ use Rattle.nrrd_raw.specs.FaultCauses.{cause_of}
 use Rattle.nrrd_raw.proofs.SampleLaws.{samples_of-append}
 
 -- a piece more was read
-pub ReadsSamples-more : (h : Header) (a b c : Option (List ℕ)) (n m k : ℕ) (before after : List ℤ) → k ≡ n + m
-    → ReadsSamples h a b n before → ReadsMore h b c m before after → ReadsSamples h a c k after
-ReadsSamples-more h a b c n m k before after e p q = record {
+pub ReadsSamples-more : {S : Type 0} (rest : S → Option (List ℕ)) (h : Header) (a : Option (List ℕ)) (b c : S) (n m k : ℕ) (before after : List ℤ) → k ≡ n + m
+    → ReadsSamples h a (rest b) n before → ReadsMore h m rest b c before after → ReadsSamples h a (rest c) k after
+ReadsSamples-more rest h a b c n m k before after e p q = record {
   came = p.came ++ q.came;
   whole = rw e (omega (arith, length-append p.came q.came, p.whole, q.whole));
-  taken = Consumes-trans a b c p.came q.came p.taken q.taken;
+  taken = Consumes-trans a (rest b) (rest c) p.came q.came p.taken q.taken;
   spelled =
       q.spelled ∙ ap (λ items. items ++ samples_of h m q.came) p.spelled ∙ sym (samples_of-append h n m p.came q.came p.whole)
       ∙ ap (λ i. samples_of h i (p.came ++ q.came)) (sym e);

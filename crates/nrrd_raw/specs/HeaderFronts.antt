@@ -35,12 +35,12 @@ pub record IsFront (front : List ℕ) : Type 0 where
   pub begins : (more : List ℕ) → begins_right (front ++ more) ≡ true
 
 -- a byte within these bounds was taken and stands behind the others
-pub record TakesFitting (old new : Option (List ℕ)) (least greatest : ℕ) (before after : List ℕ) : Type 0 where
+pub record TakesFitting {S : Type 0} (rest : S → Option (List ℕ)) (old new : S) (low high : ℕ) (before after : List ℕ) : Type 0 where
   pub byte : ℕ
-  pub low : least ≤ byte
-  pub high : byte ≤ greatest
+  pub above : low ≤ byte
+  pub below : byte ≤ high
   pub pushed : after ≡ before ++ byte ∷ []
-  pub taken : Consumes old new (byte ∷ [])
+  pub taken : Consumes (rest old) (rest new) (byte ∷ [])
 
 -- the shelf is blamed, or the next byte is none of these, or is not there
 abbrev pub IsUnfit : Option (List ℕ) → ℕ → ℕ → GridFault → Type 0

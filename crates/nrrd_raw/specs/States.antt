@@ -1,11 +1,14 @@
 -- What the lines of a header state so far.
-use Rattle.std.specs.Prelude.{◌≡◌, ℕ, ◌+◌, ◌≤◌, ◌++◌, map, Bool, true, List, [], ◌∷◌, length, Option, Some, None, IfSome, is_some, if◌then◌else◌}
+use Rattle.std.specs.Prelude.{◌≡◌, ℕ, ◌+◌, ◌≤◌, ◌++◌, map, Bool, true, List, [], ◌∷◌, length, drop, slice_index_or, Option, Some, None}
+use Rattle.std.specs.Prelude.{IfSome, IsTrue, is_some, if◌then◌else◌}
+use Rattle.std.specs.List.{AllPass}
 use Rattle.std.specs.Option.{option_map}
 use Rattle.iso_formats.specs.declared.Field.{Field}
 use Rattle.iso_formats.specs.declared.Field.TheVariants.{SampleType, Dimension, Sizes, Encoding, Endian}
 use Rattle.iso_formats.specs.HeaderLines as lines
 use Rattle.iso_formats.specs.GridFaults.{line_of, content_fault, missing_fault, count_fault, all_fields}
 use Rattle.iso_formats.specs.GridFaults as cause
+use Rattle.iso_formats.specs.GridFile.{Header, SpellHeader, is_sound_line}
 use Rattle.nrrd_raw.specs.declared.faults.GridFault.{GridFault}
 use Rattle.nrrd_raw.specs.FaultCauses.{cause_of}
 use Rattle.nrrd_raw.specs.declared.fields.values.Sample.{Sample}
@@ -38,6 +41,14 @@ pub record StatesValues (sample : Option Sample) (dimension : Option ℕ) (sizes
 
 abbrev pub States : Stated → List (List ℕ) → Type 0
 States s texts = StatesValues s.sample s.dimension s.sizes s.raw s.big texts
+
+-- it holds of all lines that state these values
+abbrev pub HoldsOfStated : Stated → (List (List ℕ) → Type 0) → Type 0
+HoldsOfStated s P = (texts : List (List ℕ)) → States s texts → P texts
+
+-- the lines spell the header, where the first one is right and those behind it are
+abbrev pub SpellWhereSound : Header → List (List ℕ) → Type 0
+SpellWhereSound h texts = AllPass is_sound_line (drop 1 texts) → IsTrue (lines.is_first_line (slice_index_or texts 0 [])) → SpellHeader texts h
 
 -- the field stood on an earlier line
 abbrev pub has_field : Stated → Field → Bool

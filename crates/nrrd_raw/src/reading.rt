@@ -6,7 +6,7 @@ ghost use Rattle.iso_formats.specs.GridFile.{IsRegularHeader, SpellsGrid};
 ghost use Rattle.iso_formats.specs.GridFaults.{HasGridFault, HasHeaderFault};
 ghost use Rattle.std.specs.Io.KnownBytes.{IsAtEnd};
 ghost use Rattle.iso_base.specs.Shelves.{IsSameShelf, IsFairBlame, TakesAtMost};
-ghost use Rattle.nrrd_raw.specs.FaultCauses.{cause_of};
+ghost use Rattle.nrrd_raw.specs.FaultCauses.{NamesCause};
 ghost use Rattle.nrrd_raw.specs.GridFaultWords.{blame_of, is_header_fault};
 ghost use Rattle.nrrd_raw.specs.Headers.{HeaderIsRead};
 
@@ -29,7 +29,7 @@ pub fn read_header<S: Shelf>(shelf: &mut S) -> Result<Header, GridFault>
     ensures causes { IfErr result (λ fault. IsTrue (is_header_fault fault)) }
     ensures taken { TakesAtMost 65536 (S.rest shelf.old) (S.rest shelf.new) }
     ensures read { IfOk result (HeaderIsRead (S.rest shelf.old) (S.rest shelf.new)) }
-    ensures cause { IfSome (S.rest shelf.old) (λ bytes. IfErr result (λ fault. IfSome (cause_of fault) (HasHeaderFault bytes))) }
+    ensures cause { NamesCause HasHeaderFault (S.rest shelf.old) result }
     ensures regular { IfOk result IsRegularHeader }
 {
     let mut front = ArrayVec::new();
@@ -43,7 +43,7 @@ pub fn read_grid<S: Shelf>(alloc: Global, shelf: &mut S) -> Result<Grid, GridFau
     ensures blames { IfErr result (λ fault. IsFairBlame (S.faults shelf.old) (S.faults shelf.new) (blame_of fault)) }
     ensures sound { S.sound shelf.old → IfErr result (λ fault. IsNone (blame_of fault)) }
     ensures spelled { IfSome (S.rest shelf.old) (λ bytes. IfOk result (SpellsGrid bytes)) }
-    ensures cause { IfSome (S.rest shelf.old) (λ bytes. IfErr result (λ fault. IfSome (cause_of fault) (HasGridFault bytes))) }
+    ensures cause { NamesCause HasGridFault (S.rest shelf.old) result }
     ensures whole { OnOk result (IsAtEnd (S.rest shelf.new)) }
     ensures taken { TakesAtMost (2 ^ 29 + 65537) (S.rest shelf.old) (S.rest shelf.new) }
     ensures regular { IfOk result IsRegularGrid }

@@ -4,6 +4,7 @@ ghost use Rattle.std.specs.Prelude.{◌≡◌, ℕ, ◌+◌, ◌*◌, ◌≤◌,
 ghost use Rattle.std.specs.Option.{option_map};
 ghost use Rattle.iso_formats.specs.HeaderLines as lines;
 ghost use Rattle.nrrd_raw.specs.Names.{sizes_view};
+ghost use Rattle.nrrd_raw.specs.Names as names;
 
 use crate::fields::values::Sizes;
 use crate::lines::content::is_blank;
@@ -12,7 +13,7 @@ use crate::lines::content::is_blank;
 pub(crate) fn numeral_within(text: &[u8], low: u64, high: u64) -> Option<u64>
     requires { high < 2 ^ 32 }
     ensures within { IfSome result (λ n. (low ≤ n) × (n ≤ high)) }
-    ensures value { result ≡ (if lines.is_numeral_within low high text.now then Some (lines.numeral_value text.now) else None) }
+    ensures value { result ≡ names.numeral_within low high text.now }
 {
     if text.is_empty() {
         return None;

@@ -24,14 +24,14 @@ pub(crate) struct Stated {
 
 impl Stated {
     ghost use Rattle.std.specs.Prelude.{◌≡◌, ℕ, ◌+◌, ◌≤◌, false, List, [], length, drop, slice_index_or, is_some, IfErr, IfOk, IsTrue, IsNone, None};
-    ghost use Rattle.std.specs.List.{AllPass};
     ghost use Rattle.std.specs.Str.{str_to_ascii_lowercase};
     ghost use Rattle.iso_formats.specs.declared.Field.TheVariants as field;
     ghost use Rattle.iso_formats.specs.HeaderLines as lines;
-    ghost use Rattle.iso_formats.specs.GridFile.{IsRegularHeader, SpellHeader, is_sound_line};
+    ghost use Rattle.iso_formats.specs.GridFile.{IsRegularHeader};
     ghost use Rattle.nrrd_raw.specs.GridFaultWords.{is_header_fault, blame_of};
     ghost use Rattle.nrrd_raw.specs.FaultCauses.{cause_of};
     ghost use Rattle.nrrd_raw.specs.States.{States, AddsLine, AddsNamed, AddsField, HasCause, HasNamedCause, HasFieldCause, has_field, whole_fault};
+    ghost use Rattle.nrrd_raw.specs.States.{HoldsOfStated, SpellWhereSound};
 
     /// Behind the first line nothing is stated.
     pub(crate) fn none() -> Stated
@@ -215,10 +215,9 @@ impl Stated {
         ensures causes { IfErr result (λ fault. IsTrue (is_header_fault fault)) }
         ensures form { IfErr result (λ fault. IsNone (blame_of fault)) }
         ensures regular { IfOk result IsRegularHeader }
-        ensures whole { IfOk result (λ header. (texts : List (List ℕ)) → States self texts → whole_fault texts ≡ None) }
-        ensures spelled { IfOk result (λ header. (texts : List (List ℕ)) → States self texts → AllPass is_sound_line (drop 1 texts)
-            → IsTrue (lines.is_first_line (slice_index_or texts 0 [])) → SpellHeader texts header) }
-        ensures cause { IfErr result (λ fault. (texts : List (List ℕ)) → States self texts → cause_of fault ≡ whole_fault texts) }
+        ensures whole { IfOk result (λ header. HoldsOfStated self (λ texts. whole_fault texts ≡ None)) }
+        ensures spelled { IfOk result (λ header. HoldsOfStated self (SpellWhereSound header)) }
+        ensures cause { IfErr result (λ fault. HoldsOfStated self (λ texts. cause_of fault ≡ whole_fault texts)) }
     {
         let Some(sample) = self.sample else {
             return Err(GridFault::Missing(Field::SampleType));

@@ -6,7 +6,7 @@ ghost use Rattle.std.specs.Str.{str_to_ascii_lowercase};
 ghost use Rattle.iso_formats.specs.declared.Field.{Field};
 ghost use Rattle.lists.specs.Orders.{same_list};
 ghost use Rattle.iso_formats.specs.HeaderLines as lines;
-ghost use Rattle.nrrd_raw.specs.Names.{IsKey, sample_view, signed_8, unsigned_8, signed_16, unsigned_16, signed_32, unsigned_32};
+ghost use Rattle.nrrd_raw.specs.Names.{IsKey, IsNoField, sample_view, signed_8, unsigned_8, signed_16, unsigned_16, signed_32, unsigned_32};
 
 use crate::fields::values::Sample;
 use iso_formats::Field;
@@ -176,7 +176,7 @@ fn names_data_file(name: &[u8]) -> bool
 
 fn field_of(name: &[u8]) -> Option<Field>
     ensures some { IfSome result (λ known. str_to_ascii_lowercase name.now ≡ lines.field_name known) }
-    ensures none { IfNone result ((known : Field) → same_list (str_to_ascii_lowercase name.now) (lines.field_name known) ≡ false) }
+    ensures none { IfNone result (IsNoField (str_to_ascii_lowercase name.now)) }
 {
     if is_word(name, b"type") {
         return Some(Field::SampleType);

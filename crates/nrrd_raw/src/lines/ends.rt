@@ -10,7 +10,7 @@ pub(crate) fn line_at(bytes: &[u8], from: usize) -> (&[u8], usize)
     ensures later { from < result.1 }
     ensures within { result.1 ≤ length bytes.now }
     ensures text { result.0.now ≡ ends.first_text (drop from bytes.now) }
-    ensures next { from + position_or_len (nat_eq 10) (drop from bytes.now) < length bytes.now → result.1 ≡ from + position_or_len (nat_eq 10) (drop from bytes.now) + 1 }
+    ensures next { ends.IsBehindFeed bytes.now from result.1 }
 {
     let end = feed_from(bytes, from);
     let next = if end < bytes.len() { end + 1 } else { end };
@@ -22,7 +22,7 @@ fn feed_from(bytes: &[u8], from: usize) -> usize
     requires { from ≤ length bytes.now }
     ensures later { from ≤ result }
     ensures within { result ≤ length bytes.now }
-    ensures first { result ≡ from + position_or_len (nat_eq 10) (drop from bytes.now) }
+    ensures first { result ≡ ends.feed_from bytes.now from }
 {
     for at in from..bytes.len() {
         if bytes[at] == b'\n' {

@@ -1,11 +1,11 @@
 //! The bytes of a header, as a shelf gives them.
 
-ghost use Rattle.std.specs.Prelude.{◌≡◌, ℕ, ◌+◌, ◌<◌, ◌≤◌, ◌==◌, [], length, IfSome, IfErr, OnOk, IsTrue, IsNone};
+ghost use Rattle.std.specs.Prelude.{◌≡◌, ℕ, ◌+◌, ◌<◌, ◌≤◌, ◌==◌, [], length, IfErr, OnOk, IsTrue, IsNone};
 ghost use Rattle.std.specs.Io.KnownBytes.{Consumes};
 ghost use Rattle.iso_base.specs.Shelves.{IsSameShelf, IsFairBlame, TakesAtMost};
 ghost use Rattle.arrayvec.specs.ArrayVec.{array_vec_len};
 ghost use Rattle.iso_formats.specs.GridFaults.{HasHeaderFault};
-ghost use Rattle.nrrd_raw.specs.FaultCauses.{cause_of};
+ghost use Rattle.nrrd_raw.specs.FaultCauses.{NamesCause};
 ghost use Rattle.nrrd_raw.specs.LineEnds as ends;
 ghost use Rattle.nrrd_raw.specs.GridFaultWords.{is_header_fault, blame_of};
 ghost use Rattle.nrrd_raw.specs.HeaderFronts.{HasFront, IsFront, IsNoBeginning, IsUnfit, TakesFitting, FitsFirst};
@@ -37,7 +37,7 @@ pub(crate) fn take_front<S: Shelf>(
     ensures taken { TakesAtMost 65536 (S.rest shelf.old) (S.rest shelf.new) }
     ensures came { OnOk result (Consumes (S.rest shelf.old) (S.rest shelf.new) front.new.items) }
     ensures whole { OnOk result (IsFront front.new.items) }
-    ensures cause { IfSome (S.rest shelf.old) (λ bytes. IfErr result (λ fault. IfSome (cause_of fault) (HasHeaderFault bytes))) }
+    ensures cause { NamesCause HasHeaderFault (S.rest shelf.old) result }
 {
     take_first_line(shelf, front)?;
     let mut start = front.len();
@@ -99,25 +99,25 @@ fn take_first_line<S: Shelf>(
     take_fitting(shelf, front, b'\n', b'\n')
 }
 
-/// Takes a byte from `least` to `greatest`.
+/// Takes a byte from `low` to `high`.
 fn take_fitting<S: Shelf>(
     shelf: &mut S,
     front: &mut ArrayVec<u8, HEADER_LIMIT>,
-    least: u8,
-    greatest: u8,
+    low: u8,
+    high: u8,
 ) -> Result<(), GridFault>
     requires room { array_vec_len front.old < 65536 }
-    requires some { 1 ≤ least }
+    requires some { 1 ≤ low }
     ensures shelf { IsSameShelf S.faults S.files S.sound shelf.old shelf.new }
     ensures blames { IfErr result (λ fault. IsFairBlame (S.faults shelf.old) (S.faults shelf.new) (blame_of fault)) }
     ensures sound { S.sound shelf.old → IfErr result (λ fault. IsNone (blame_of fault)) }
     ensures causes { IfErr result (λ fault. IsTrue (is_header_fault fault)) }
     ensures taken { TakesAtMost 1 (S.rest shelf.old) (S.rest shelf.new) }
-    ensures fitting { OnOk result (TakesFitting (S.rest shelf.old) (S.rest shelf.new) least greatest front.old.items front.new.items) }
-    ensures unfit { IfErr result (IsUnfit (S.rest shelf.old) least greatest) }
+    ensures fitting { OnOk result (TakesFitting S.rest shelf.old shelf.new low high front.old.items front.new.items) }
+    ensures unfit { IfErr result (IsUnfit (S.rest shelf.old) low high) }
 {
     match take_byte(shelf)? {
-        Some(byte) if least <= byte && byte <= greatest => {
+        Some(byte) if low <= byte && byte <= high => {
             front.push(byte);
             Ok(())
         }

@@ -6,7 +6,7 @@ ghost use Rattle.iso_formats.specs.GridFile.{IsRegularHeader, SpellsSamples, sam
 ghost use Rattle.iso_formats.specs.GridFaults.{HasSampleFault};
 ghost use Rattle.std.specs.Io.KnownBytes.{IsAtEnd};
 ghost use Rattle.iso_base.specs.Shelves.{IsSameShelf, IsFairBlame, TakesAtMost};
-ghost use Rattle.nrrd_raw.specs.FaultCauses.{ReadsSamples, ReadsMore, IsCutOff, IsDataFault, cause_of};
+ghost use Rattle.nrrd_raw.specs.FaultCauses.{ReadsSamples, ReadsMore, IsCutOff, IsDataFault, NamesCause, IsLarge, IsLargeCount, data_length};
 ghost use Rattle.nrrd_raw.specs.GridFaultWords.{blame_of, is_sample_fault, is_data_fault, is_piece_fault};
 ghost use Rattle.nrrd_raw.specs.Shapes.{InRange};
 
@@ -32,13 +32,13 @@ pub fn read_samples<S: Shelf>(
     ensures blames { IfErr result (λ fault. IsFairBlame (S.faults shelf.old) (S.faults shelf.new) (blame_of fault)) }
     ensures sound { S.sound shelf.old → IfErr result (λ fault. IsNone (blame_of fault)) }
     ensures causes { IfErr result (λ fault. IsTrue (is_sample_fault fault)) }
-    ensures large_alone { sample_limit < product header.now.sizes → result ≡ Err (GridFault.TooLarge (product header.now.sizes)) }
-    ensures large_only { (count : ℕ) → result ≡ Err (GridFault.TooLarge count) → (sample_limit < product header.now.sizes) × (count ≡ product header.now.sizes) }
-    ensures untouched { sample_limit < product header.now.sizes → shelf.new ≡ shelf.old }
-    ensures taken { TakesAtMost (product header.now.sizes * header.now.width + 1) (S.rest shelf.old) (S.rest shelf.new) }
+    ensures large_alone { IsLarge header.now → result ≡ Err (GridFault.TooLarge (product header.now.sizes)) }
+    ensures large_only { (count : ℕ) → result ≡ Err (GridFault.TooLarge count) → IsLargeCount header.now count }
+    ensures untouched { IsLarge header.now → shelf.new ≡ shelf.old }
+    ensures taken { TakesAtMost (data_length header.now + 1) (S.rest shelf.old) (S.rest shelf.new) }
     ensures sizes { IfOk result (λ grid. grid.sizes ≡ header.now.sizes) }
     ensures spelled { IfSome (S.rest shelf.old) (λ bytes. IfOk result (SpellsSamples header.now bytes)) }
-    ensures cause { IfSome (S.rest shelf.old) (λ bytes. IfErr result (λ fault. IfSome (cause_of fault) (HasSampleFault header.now bytes))) }
+    ensures cause { NamesCause (HasSampleFault header.now) (S.rest shelf.old) result }
     ensures whole { OnOk result (IsAtEnd (S.rest shelf.new)) }
     ensures regular { IfOk result IsRegularGrid }
 {
@@ -79,7 +79,7 @@ fn take_samples<S: Shelf>(
     ensures taken { TakesAtMost (count * header.now.width + 1) (S.rest shelf.old) (S.rest shelf.new) }
     ensures count { IfOk result (λ samples. vec_len samples ≡ count) }
     ensures range { IfOk result (λ samples. All InRange samples.items) }
-    ensures read { IfOk result (λ samples. ReadsSamples header.now (S.rest shelf.old) (S.rest shelf.new) count samples.items) }
+    ensures read { IfOk result (λ all. ReadsSamples header.now (S.rest shelf.old) (S.rest shelf.new) count all.items) }
     ensures ended { OnOk result (IsAtEnd (S.rest shelf.new)) }
     ensures cause { IfErr result (IsDataFault (count * header.now.width) (S.rest shelf.old) (S.rest shelf.new)) }
 {
@@ -103,35 +103,35 @@ fn take_samples<S: Shelf>(
     }
 }
 
-/// Fills `piece` with the bytes of `more` samples, and appends them. There are to be `count` in the end.
+/// Fills `piece` with the bytes of `more` samples, and appends them to `into`. There are to be `count` in the end.
 fn take_piece<S: Shelf>(
     shelf: &mut S,
     header: &Header,
     piece: &mut [u8],
-    samples: &mut Vec<i64>,
+    into: &mut Vec<i64>,
     more: usize,
     count: usize,
 ) -> Result<(), GridFault>
     requires regular { IsRegularHeader header.now }
     requires whole { length piece.old ≡ more * header.now.width }
-    requires room { vec_len samples.old + more ≤ count }
+    requires room { vec_len into.old + more ≤ count }
     requires few { count ≤ 2 ^ 27 }
     ensures shelf { IsSameShelf S.faults S.files S.sound shelf.old shelf.new }
     ensures blames { IfErr result (λ fault. IsFairBlame (S.faults shelf.old) (S.faults shelf.new) (blame_of fault)) }
     ensures sound { S.sound shelf.old → IfErr result (λ fault. IsNone (blame_of fault)) }
     ensures causes { IfErr result (λ fault. IsTrue (is_piece_fault fault)) }
     ensures taken { TakesAtMost (length piece.new) (S.rest shelf.old) (S.rest shelf.new) }
-    ensures len { OnOk result (vec_len samples.new ≡ vec_len samples.old + more) }
-    ensures range { All InRange samples.old.items → OnOk result (All InRange samples.new.items) }
-    ensures read { OnOk result (ReadsMore header.now (S.rest shelf.old) (S.rest shelf.new) more samples.old.items samples.new.items) }
-    ensures cut { IfErr result (IsCutOff header.now (S.rest shelf.old) (S.rest shelf.new) (vec_len samples.old) more) }
+    ensures len { OnOk result (vec_len into.new ≡ vec_len into.old + more) }
+    ensures range { All InRange into.old.items → OnOk result (All InRange into.new.items) }
+    ensures read { OnOk result (ReadsMore header.now more S.rest shelf.old shelf.new into.old.items into.new.items) }
+    ensures cut { IfErr result (IsCutOff header.now (S.rest shelf.old) (S.rest shelf.new) (vec_len into.old) more) }
 {
     let width = usize::from(header.width);
     let came = fill(shelf, piece)?;
     if came < piece.len() {
-        return Err(GridFault::DataShort((samples.len() * width + came) as u64));
+        return Err(GridFault::DataShort((into.len() * width + came) as u64));
     }
-    append(samples, header, piece, more, count)
+    append(into, header, piece, more, count)
 }
 
 /// Appends the samples of a piece, so many. There are to be `count` in the end.

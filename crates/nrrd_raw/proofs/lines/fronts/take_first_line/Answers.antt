@@ -30,7 +30,7 @@ places-preserved g c =
     let e = c.in_ok-take_fitting.ensures in
     record {
       same = IsSameShelf-then _ _ _ _ _ _ c.places.invariant.same e.shelf;
-      fits = FitsFirst-more c.places.front.items c.take_fitting.new.front.items c.places.place _ _ c.places.invariant.fits e.fitting;
+      fits = FitsFirst-more g.S.Shelf.rest c.places.front.items c.take_fitting.new.front.items c.places.place _ _ c.places.invariant.fits e.fitting;
       came = subst (λ (bs : List ℕ). Consumes (g.S.Shelf.rest c.args.shelf.now) (g.S.Shelf.rest c.take_fitting.new.shelf) bs) (sym e.fitting.pushed)
           (Consumes-trans _ _ _ _ _ c.places.invariant.came e.fitting.taken);
     }
@@ -79,7 +79,7 @@ pub returns-clause-first : goal.returns-clause-first
 returns-clause-first g c =
     let eight : c.places.place ≡ 8 = omega arith in
     let cr : c.in-Some.byte ≡ 13 = c.if-byte-ne13.false in
-    first-return c.take_fitting-2.result _ _ c.places.front.items c.push-2.new.self.items c.take_fitting-2.new.front.items
+    first-return c.take_fitting-2.result g.S.Shelf.rest _ _ c.places.front.items c.push-2.new.self.items c.take_fitting-2.new.front.items
     (rw eight at c.places.invariant.fits) (c.push-2.ensures.items ∙ ap (λ (b : ℕ). c.places.front.items ++ b ∷ []) cr) c.take_fitting-2.ensures.fitting
 
 pub returns-clause-cause : goal.returns-clause-cause

@@ -23,10 +23,10 @@ pieces-preserved g c =
       range = e.range c.pieces.invariant.range;
       taken =
           TakesAtMost-then (vec_len c.pieces.samples * c.from-width.result) (length c.take_piece.new.piece)
-          (vec_len c.take_piece.new.samples * c.from-width.result) _ _ _
+          (vec_len c.take_piece.new.into * c.from-width.result) _ _ _
           c.pieces.invariant.taken e.taken (rw len (omega (arith, piece)));
       read =
-          ReadsSamples-more c.args.header.now _ _ _ (vec_len c.pieces.samples) c.min-more.result (vec_len c.take_piece.new.samples) _ _ len
+          ReadsSamples-more g.S.Shelf.rest c.args.header.now _ _ _ (vec_len c.pieces.samples) c.min-more.result (vec_len c.take_piece.new.into) _ _ len
           c.pieces.invariant.read e.read;
     }
 
