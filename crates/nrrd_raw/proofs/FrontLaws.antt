@@ -235,10 +235,18 @@ front-longer front ys start f texts more p =
 
 -- ---- the causes where the end does not come
 
+-- bytes without LF
+pub no_lines_plain : (part : List ℕ) → has part 10 ≡ false → HasNoLines part
+no_lines_plain part h texts more p =
+    let form : part ++ [] ≡ flat_map line_bytes p.lines ++ more = append-nil part ∙ p.spelled in
+    let later =
+    longer [] p.lines texts part [] more (λ k d l. absurd (omega (arith, l))) p.are_lines (λ k d l. absurd (omega (arith, l))) p.read h form in
+    absurd (omega (arith, later, ap length p.spelled, length-append (flat_map line_bytes p.lines) more))
+
 no_lines : (front ys : List ℕ) (start : ℕ) (f : HasFront front start) → header_limit ≤ length front → HasNoLines (front ++ ys)
 no_lines front ys start f l texts more p = absurd (omega (arith, front-longer front ys start f texts more p, p.short, l))
 
-no_lines_left : (front : List ℕ) (start : ℕ) (f : HasFront front start) → HasNoLines front
+pub no_lines_left : (front : List ℕ) (start : ℕ) (f : HasFront front start) → HasNoLines front
 no_lines_left front start f texts more p =
     let q : HasLines (front ++ []) texts more = subst (λ (bs : List ℕ). HasLines bs texts more) (sym (append-nil front)) p in
     absurd

@@ -1,5 +1,5 @@
 -- The faults of this crate as causes of the definition.
-use Rattle.std.specs.Prelude.{◌≡◌, ℕ, ◌+◌, ◌*◌, ◌<◌, ◌++◌, ℤ, List, length, Option, Some, None, Result, IfErr, IfSome}
+use Rattle.std.specs.Prelude.{◌≡◌, ℕ, ◌+◌, ◌*◌, ◌<◌, ◌++◌, ℤ, List, [], ◌∷◌, length, Option, Some, None, Result, IfErr, IfSome}
 use Rattle.std.specs.Io.KnownBytes.{Consumes, IsAtEnd}
 use Rattle.iso_formats.specs.GridFile as file
 use Rattle.iso_formats.specs.GridFaults as cause
@@ -65,8 +65,7 @@ IsCutOff h old new before more (DataShort count) =
     (came : List ℕ) × (length came < more * h.width) × (count ≡ before * h.width + length came) × Consumes old new came × IsAtEnd new
 IsCutOff h old new before more fault = Unit {0}
 
--- fewer or more than so many bytes are there
-abbrev pub IsDataFault : ℕ → Option (List ℕ) → Option (List ℕ) → GridFault → Type 0
-IsDataFault wanted old new (DataShort count) = (came : List ℕ) × (length came ≡ count) × (count < wanted) × Consumes old new came × IsAtEnd new
-IsDataFault wanted old new Trailing = (came : List ℕ) × (length came ≡ wanted + 1) × Consumes old new came
-IsDataFault wanted old new fault = Unit {0}
+-- where this is the fault, a byte follows
+abbrev pub IsTrailing : Option (List ℕ) → Option (List ℕ) → GridFault → Type 0
+IsTrailing old new Trailing = (byte : ℕ) × Consumes old new (byte ∷ [])
+IsTrailing old new fault = Unit {0}

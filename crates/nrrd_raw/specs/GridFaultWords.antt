@@ -33,6 +33,12 @@ is_data_fault (Shelf count) = true
 is_data_fault Memory = true
 is_data_fault fault = false
 
+-- a byte follows the samples, or the shelf is blamed
+abbrev pub is_end_fault : GridFault → Bool
+is_end_fault Trailing = true
+is_end_fault (Shelf count) = true
+is_end_fault fault = false
+
 -- the samples' bytes are too few, or the shelf is blamed, or memory was refused
 abbrev pub is_piece_fault : GridFault → Bool
 is_piece_fault (DataShort count) = true

@@ -9,3 +9,4 @@ pub mod Names
 pub mod Shapes
 pub mod States
 pub mod Taken
+pub mod Undecided

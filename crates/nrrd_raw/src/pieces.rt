@@ -4,6 +4,7 @@ ghost use Rattle.std.specs.Prelude.{◌≡◌, ◌≤◌, length, IsOk, IfOk, If
 ghost use Rattle.nrrd_raw.specs.GridFaultWords.{blame_of};
 ghost use Rattle.std.specs.Io.KnownBytes.{Keeps};
 ghost use Rattle.iso_base.specs.Shelves.{IsSameShelf, IsFairBlame, TakesAtMost};
+ghost use Rattle.nrrd_raw.specs.Undecided.{BlamesBefore};
 ghost use Rattle.nrrd_raw.specs.Taken.{FillsUp, TakesByte};
 
 use crate::faults::GridFault;
@@ -17,6 +18,7 @@ pub(crate) fn fill<S: Shelf>(shelf: &mut S, buf: &mut [u8]) -> Result<usize, Gri
     ensures causes { IfErr result (λ fault. IsSome (blame_of fault)) }
     ensures filled { IfOk result (FillsUp (S.rest shelf.old) (S.rest shelf.new) buf.new) }
     ensures taken { TakesAtMost (length buf.new) (S.rest shelf.old) (S.rest shelf.new) }
+    ensures undecided { BlamesBefore (length buf.old) (S.rest shelf.old) (S.rest shelf.new) result }
 {
     let mut filled = 0;
     while filled < buf.len() {

@@ -9,6 +9,7 @@ ghost use Rattle.iso_base.specs.Shelves.{IsSameShelf, IsFairBlame, TakesAtMost};
 ghost use Rattle.nrrd_raw.specs.FaultCauses.{NamesCause};
 ghost use Rattle.nrrd_raw.specs.GridFaultWords.{blame_of, is_header_fault};
 ghost use Rattle.nrrd_raw.specs.Headers.{HeaderIsRead};
+ghost use Rattle.nrrd_raw.specs.Undecided.{TakesSuch, BlamesWhile, IsOpenHeader, EndsOpenHeader};
 
 use crate::faults::GridFault;
 use crate::fields::headers::Header;
@@ -28,6 +29,8 @@ pub fn read_header<S: Shelf>(shelf: &mut S) -> Result<Header, GridFault>
     ensures sound { S.sound shelf.old → IfErr result (λ fault. IsNone (blame_of fault)) }
     ensures causes { IfErr result (λ fault. IsTrue (is_header_fault fault)) }
     ensures taken { TakesAtMost 65536 (S.rest shelf.old) (S.rest shelf.new) }
+    ensures no_further { TakesSuch EndsOpenHeader (S.rest shelf.old) (S.rest shelf.new) }
+    ensures undecided { BlamesWhile IsOpenHeader (S.rest shelf.old) (S.rest shelf.new) result }
     ensures read { IfOk result (HeaderIsRead (S.rest shelf.old) (S.rest shelf.new)) }
     ensures cause { NamesCause HasHeaderFault (S.rest shelf.old) result }
     ensures regular { IfOk result IsRegularHeader }

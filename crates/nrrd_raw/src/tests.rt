@@ -8,13 +8,23 @@ use std::test::Fail;
 
 /// A shelf with one file, which is begun and given in parts of at most `step` bytes.
 fn shelf_of(alloc: Global, bytes: &[u8], step: usize) -> Result<MemShelf, AllocError> {
+    failing_shelf(alloc, bytes, step, &[])
+}
+
+/// The same, where the calls of `take` with these numbers, counted from 1, are to fail.
+fn failing_shelf(
+    alloc: Global,
+    bytes: &[u8],
+    step: usize,
+    fails: &[u64],
+) -> Result<MemShelf, AllocError> {
     let mut files = Vec::new(alloc);
     files.push(MemFile {
         name: String::from_str(alloc, "grid.nrrd")?,
         bytes: Vec::from_slice(alloc, bytes)?,
     })?;
-    let mut shelf = MemShelf::new(files, Vec::new(alloc), step.max(1));
-    // No call is to fail, and the file is there.
+    let mut shelf = MemShelf::new(files, Vec::from_slice(alloc, fails)?, step.max(1));
+    // The file is there.
     let _ = shelf.begin("grid.nrrd");
     Ok(shelf)
 }
@@ -183,6 +193,43 @@ fn samples_are_counted(rt: HostRuntime) -> Result<(), Fail> {
         "NRRD0001\ntype: uint8\nencoding: raw\n",
         &cases,
     )
+}
+
+/// The lines of a grid of 2 x 2 bytes, 60 bytes with their ends.
+const SQUARE: &str = "NRRD0001\ntype: uint8\ndimension: 2\nsizes: 2 2\nencoding: raw\n\n";
+
+#[test]
+fn no_call_follows_the_one_that_decides(rt: HostRuntime) -> Result<(), Fail> {
+    // What stands in the file behind the lines of the grid or alone, how many calls are made where each gives one byte, and the answer.
+    let cases = [
+        ("", "NR D0001\n", 3, Some(GridFault::Magic)),
+        ("", "NRRD0006\n", 8, Some(GridFault::Magic)),
+        ("", "NRRD0001 \n", 9, Some(GridFault::Magic)),
+        ("", "NRRD0001\rx", 10, Some(GridFault::Magic)),
+        ("", "NRRD0001", 9, Some(GridFault::Magic)),
+        ("", "NRRD0001\nx", 11, Some(GridFault::HeaderEnd)),
+        ("", "NRRD0001\nx\n\ny", 12, Some(GridFault::Line(2))),
+        (SQUARE, "abc", 64, Some(GridFault::DataShort(3))),
+        (SQUARE, "abcd", 65, None),
+        (SQUARE, "abcdef", 65, Some(GridFault::Trailing)),
+    ];
+    for (lines, rest, calls, answer) in cases {
+        let text = format!(in rt.alloc(); "{lines}{rest}")?;
+        for call in 1..calls + 2 {
+            let mut shelf = failing_shelf(rt.alloc(), text.as_bytes(), 1, &[call])?;
+            let expected = if call <= calls {
+                Some(GridFault::Shelf(1))
+            } else {
+                answer
+            };
+            let found = match read_grid(rt.alloc(), &mut shelf) {
+                Ok(_) => None,
+                Err(fault) => Some(fault),
+            };
+            assert_eq!(rt; found, expected, "{text} {call}");
+        }
+    }
+    Ok(())
 }
 
 /// Each text gives a grid of these samples.

@@ -8,6 +8,7 @@ ghost use Rattle.iso_formats.specs.GridFaults.{HasHeaderFault};
 ghost use Rattle.nrrd_raw.specs.FaultCauses.{NamesCause};
 ghost use Rattle.nrrd_raw.specs.LineEnds as ends;
 ghost use Rattle.nrrd_raw.specs.GridFaultWords.{is_header_fault, blame_of};
+ghost use Rattle.nrrd_raw.specs.Undecided.{TakesSuch, BlamesWhile, BlamesUntouched, IsOpenHeader, EndsOpenHeader};
 ghost use Rattle.nrrd_raw.specs.HeaderFronts.{HasFront, IsFront, IsNoBeginning, IsUnfit, TakesFitting, FitsFirst};
 
 use crate::faults::GridFault;
@@ -35,6 +36,8 @@ pub(crate) fn take_front<S: Shelf>(
     ensures sound { S.sound shelf.old → IfErr result (λ fault. IsNone (blame_of fault)) }
     ensures causes { IfErr result (λ fault. IsTrue (is_header_fault fault)) }
     ensures taken { TakesAtMost 65536 (S.rest shelf.old) (S.rest shelf.new) }
+    ensures no_further { TakesSuch EndsOpenHeader (S.rest shelf.old) (S.rest shelf.new) }
+    ensures undecided { BlamesWhile IsOpenHeader (S.rest shelf.old) (S.rest shelf.new) result }
     ensures came { OnOk result (Consumes (S.rest shelf.old) (S.rest shelf.new) front.new.items) }
     ensures whole { OnOk result (IsFront front.new.items) }
     ensures cause { NamesCause HasHeaderFault (S.rest shelf.old) result }
@@ -77,6 +80,8 @@ fn take_first_line<S: Shelf>(
     ensures sound { S.sound shelf.old → IfErr result (λ fault. IsNone (blame_of fault)) }
     ensures causes { IfErr result (λ fault. IsTrue (is_header_fault fault)) }
     ensures taken { TakesAtMost 10 (S.rest shelf.old) (S.rest shelf.new) }
+    ensures no_further { TakesSuch EndsOpenHeader (S.rest shelf.old) (S.rest shelf.new) }
+    ensures undecided { BlamesWhile IsOpenHeader (S.rest shelf.old) (S.rest shelf.new) result }
     ensures came { OnOk result (Consumes (S.rest shelf.old) (S.rest shelf.new) front.new.items) }
     ensures short { OnOk result (length front.new.items ≤ 10) }
     ensures first { OnOk result (HasFront front.new.items (length front.new.items)) }
@@ -113,6 +118,7 @@ fn take_fitting<S: Shelf>(
     ensures sound { S.sound shelf.old → IfErr result (λ fault. IsNone (blame_of fault)) }
     ensures causes { IfErr result (λ fault. IsTrue (is_header_fault fault)) }
     ensures taken { TakesAtMost 1 (S.rest shelf.old) (S.rest shelf.new) }
+    ensures undecided { BlamesUntouched (S.rest shelf.old) (S.rest shelf.new) result }
     ensures fitting { OnOk result (TakesFitting S.rest shelf.old shelf.new low high front.old.items front.new.items) }
     ensures unfit { IfErr result (IsUnfit (S.rest shelf.old) low high) }
 {

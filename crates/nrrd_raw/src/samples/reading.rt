@@ -4,11 +4,12 @@ ghost use Rattle.std.specs.Prelude.{◌≡◌, ℕ, ◌++◌, IfSome, ◌+◌, �
 ghost use Rattle.iso_model.specs.Values.{IsRegularGrid, product};
 ghost use Rattle.iso_formats.specs.GridFile.{IsRegularHeader, SpellsSamples, sample_limit, samples_of};
 ghost use Rattle.iso_formats.specs.GridFaults.{HasSampleFault};
-ghost use Rattle.std.specs.Io.KnownBytes.{IsAtEnd};
+ghost use Rattle.std.specs.Io.KnownBytes.{IsAtEnd, Keeps};
 ghost use Rattle.iso_base.specs.Shelves.{IsSameShelf, IsFairBlame, TakesAtMost};
-ghost use Rattle.nrrd_raw.specs.FaultCauses.{ReadsSamples, ReadsMore, IsCutOff, IsDataFault, NamesCause, IsLarge, IsLargeCount, data_length};
-ghost use Rattle.nrrd_raw.specs.GridFaultWords.{blame_of, is_sample_fault, is_data_fault, is_piece_fault};
+ghost use Rattle.nrrd_raw.specs.FaultCauses.{ReadsSamples, ReadsMore, IsCutOff, IsTrailing, NamesCause, IsLarge, IsLargeCount, data_length};
+ghost use Rattle.nrrd_raw.specs.GridFaultWords.{blame_of, is_sample_fault, is_piece_fault, is_end_fault};
 ghost use Rattle.nrrd_raw.specs.Shapes.{InRange};
+ghost use Rattle.nrrd_raw.specs.Undecided.{BlamesWhile, BlamesBefore, BlamesUntouched, IsOpenData};
 
 use crate::faults::GridFault;
 use crate::fields::headers::Header;
@@ -36,6 +37,7 @@ pub fn read_samples<S: Shelf>(
     ensures large_only { (count : ℕ) → result ≡ Err (GridFault.TooLarge count) → IsLargeCount header.now count }
     ensures untouched { IsLarge header.now → shelf.new ≡ shelf.old }
     ensures taken { TakesAtMost (data_length header.now + 1) (S.rest shelf.old) (S.rest shelf.new) }
+    ensures undecided { BlamesWhile (IsOpenData header.now) (S.rest shelf.old) (S.rest shelf.new) result }
     ensures sizes { IfOk result (λ grid. grid.sizes ≡ header.now.sizes) }
     ensures spelled { IfSome (S.rest shelf.old) (λ bytes. IfOk result (SpellsSamples header.now bytes)) }
     ensures cause { NamesCause (HasSampleFault header.now) (S.rest shelf.old) result }
@@ -46,7 +48,10 @@ pub fn read_samples<S: Shelf>(
     if count > SAMPLE_LIMIT {
         return Err(GridFault::TooLarge(count));
     }
-    let samples = take_samples(alloc, shelf, header, count as usize)?;
+    let mut samples = Vec::new(alloc);
+    let mut piece = [0u8; PIECE];
+    take_samples(shelf, header, &mut piece, &mut samples, count as usize)?;
+    see_end(shelf)?;
     Ok(Grid {
         dims: header.dims,
         sizes: header.sizes,
@@ -63,43 +68,57 @@ fn sample_count(header: &Header) -> u128
     area(sizes[0], sizes[1]) * area(sizes[2], sizes[3])
 }
 
-/// Takes so many samples, piece by piece, and sees that the file ends behind them.
+/// Takes so many samples, piece by piece, in place of those in `samples`.
 fn take_samples<S: Shelf>(
-    alloc: Global,
     shelf: &mut S,
     header: &Header,
+    piece: &mut [u8; PIECE],
+    samples: &mut Vec<i64>,
     count: usize,
-) -> Result<Vec<i64>, GridFault>
+) -> Result<(), GridFault>
     requires regular { IsRegularHeader header.now }
     requires few { count ≤ 2 ^ 27 }
     ensures shelf { IsSameShelf S.faults S.files S.sound shelf.old shelf.new }
     ensures blames { IfErr result (λ fault. IsFairBlame (S.faults shelf.old) (S.faults shelf.new) (blame_of fault)) }
     ensures sound { S.sound shelf.old → IfErr result (λ fault. IsNone (blame_of fault)) }
-    ensures causes { IfErr result (λ fault. IsTrue (is_data_fault fault)) }
-    ensures taken { TakesAtMost (count * header.now.width + 1) (S.rest shelf.old) (S.rest shelf.new) }
-    ensures count { IfOk result (λ samples. vec_len samples ≡ count) }
-    ensures range { IfOk result (λ samples. All InRange samples.items) }
-    ensures read { IfOk result (λ all. ReadsSamples header.now (S.rest shelf.old) (S.rest shelf.new) count all.items) }
-    ensures ended { OnOk result (IsAtEnd (S.rest shelf.new)) }
-    ensures cause { IfErr result (IsDataFault (count * header.now.width) (S.rest shelf.old) (S.rest shelf.new)) }
+    ensures causes { IfErr result (λ fault. IsTrue (is_piece_fault fault)) }
+    ensures taken { TakesAtMost (count * header.now.width) (S.rest shelf.old) (S.rest shelf.new) }
+    ensures undecided { BlamesBefore (count * header.now.width) (S.rest shelf.old) (S.rest shelf.new) result }
+    ensures count { OnOk result (vec_len samples.new ≡ count) }
+    ensures range { OnOk result (All InRange samples.new.items) }
+    ensures read { OnOk result (ReadsSamples header.now (S.rest shelf.old) (S.rest shelf.new) count samples.new.items) }
+    ensures cut { IfErr result (IsCutOff header.now (S.rest shelf.old) (S.rest shelf.new) 0 count) }
 {
     let width = usize::from(header.width);
-    let mut piece = [0u8; PIECE];
-    let mut samples = Vec::new(alloc);
+    samples.clear();
     'pieces: while samples.len() < count {
         let more = (PIECE / width).min(count - samples.len());
         take_piece(
             shelf,
             header,
             &mut piece[..more * width],
-            &mut samples,
+            samples,
             more,
             count,
         )?;
     }
+    Ok(())
+}
+
+/// Sees that the file ends here.
+fn see_end<S: Shelf>(shelf: &mut S) -> Result<(), GridFault>
+    ensures shelf { IsSameShelf S.faults S.files S.sound shelf.old shelf.new }
+    ensures blames { IfErr result (λ fault. IsFairBlame (S.faults shelf.old) (S.faults shelf.new) (blame_of fault)) }
+    ensures sound { S.sound shelf.old → IfErr result (λ fault. IsNone (blame_of fault)) }
+    ensures causes { IfErr result (λ fault. IsTrue (is_end_fault fault)) }
+    ensures taken { TakesAtMost 1 (S.rest shelf.old) (S.rest shelf.new) }
+    ensures undecided { BlamesUntouched (S.rest shelf.old) (S.rest shelf.new) result }
+    ensures ended { OnOk result (Keeps (S.rest shelf.old) (S.rest shelf.new) × IsAtEnd (S.rest shelf.new)) }
+    ensures trailing { IfErr result (IsTrailing (S.rest shelf.old) (S.rest shelf.new)) }
+{
     match take_byte(shelf)? {
         Some(_) => Err(GridFault::Trailing),
-        None => Ok(samples),
+        None => Ok(()),
     }
 }
 
@@ -121,6 +140,7 @@ fn take_piece<S: Shelf>(
     ensures sound { S.sound shelf.old → IfErr result (λ fault. IsNone (blame_of fault)) }
     ensures causes { IfErr result (λ fault. IsTrue (is_piece_fault fault)) }
     ensures taken { TakesAtMost (length piece.new) (S.rest shelf.old) (S.rest shelf.new) }
+    ensures undecided { BlamesBefore (length piece.old) (S.rest shelf.old) (S.rest shelf.new) result }
     ensures len { OnOk result (vec_len into.new ≡ vec_len into.old + more) }
     ensures range { All InRange into.old.items → OnOk result (All InRange into.new.items) }
     ensures read { OnOk result (ReadsMore header.now more S.rest shelf.old shelf.new into.old.items into.new.items) }

@@ -8,9 +8,11 @@ use Rattle.std.proofs.KnownBytes.{Consumes-trans, Consumes-kept}
 use Rattle.iso_base.proofs.SameShelf.{IsSameShelf-then}
 use Rattle.nrrd_raw.specs.LineEnds.{without_return}
 use Rattle.nrrd_raw.specs.HeaderFronts.{HasFront, IsFront}
-use Rattle.nrrd_raw.proofs.TakenLaws.{TakesAtMost-consumed}
+use Rattle.nrrd_raw.proofs.TakenLaws.{TakesAtMost-consumed, TakesAtMost-none}
 use Rattle.nrrd_raw.proofs.FrontLaws.{front-byte, front-line, front-long, front-unended}
-use Rattle.nrrd_raw.proofs.FirstLaws.{no_beginning-fault, is_front}
+use Rattle.nrrd_raw.proofs.FirstLaws.{no_beginning-fault, is_front, taken-byte}
+use Rattle.nrrd_raw.specs.Undecided.{IsOpenHeader}
+use Rattle.nrrd_raw.proofs.OpenLaws.{ends-open, open-lines, blame-kept, some-all}
 use Rattle.nrrd_raw.proofs.lines.fronts.take_front.Goals as goal
 
 pub returns-in_err-take_first_line-clause-cause : goal.returns-in_err-take_first_line-clause-cause
@@ -64,6 +66,7 @@ returns-then-ends-clause-whole g c =
 
 pub bytes-preserved-then-byte-eq10 : goal.bytes-preserved-then-byte-eq10
 bytes-preserved-then-byte-eq10 g c =
+    let few : length c.bytes.front.items < 65536 = search rules in
     let byte : Consumes (g.S.Shelf.rest c.bytes.shelf) (g.S.Shelf.rest c.take_byte.new.shelf) (c.in-Some.byte ∷ []) =
     rw c.in-Some.is at c.in_ok-byte.ensures.byte in
     let ten : c.in-Some.byte ≡ 10 = c.if-byte-eq10.true in
@@ -82,10 +85,14 @@ bytes-preserved-then-byte-eq10 g c =
           (Consumes-trans _ _ _ _ _ c.bytes.invariant.came byte);
       begun = subst (λ (i : ℕ). HasFront c.push.new.self.items i) len
           (subst (λ (xs : List ℕ). HasFront xs (length xs)) (sym whole) (front-line c.bytes.front.items c.bytes.start c.bytes.invariant.begun test));
+      no_further =
+          ends-open _ _ _ c.bytes.front.items c.bytes.invariant.came
+          (open-lines c.bytes.front.items c.bytes.start c.bytes.invariant.begun few) (taken-byte _ _ _ c.in_ok-byte.ensures.byte);
     }
 
 pub bytes-preserved : goal.bytes-preserved
 bytes-preserved g c =
+    let few : length c.bytes.front.items < 65536 = search rules in
     let byte : Consumes (g.S.Shelf.rest c.bytes.shelf) (g.S.Shelf.rest c.take_byte.new.shelf) (c.in-Some.byte ∷ []) =
     rw c.in-Some.is at c.in_ok-byte.ensures.byte in
     let other : nat_eq 10 c.in-Some.byte ≡ false = grind (arith, nat_tests, c.if-byte-eq10.false) in
@@ -98,6 +105,9 @@ bytes-preserved g c =
       begun =
           subst (λ (xs : List ℕ). HasFront xs c.bytes.start) (sym c.push-else-byte-eq10.ensures.items)
           (front-byte c.bytes.front.items c.bytes.start c.in-Some.byte c.bytes.invariant.begun other);
+      no_further =
+          ends-open _ _ _ c.bytes.front.items c.bytes.invariant.came
+          (open-lines c.bytes.front.items c.bytes.start c.bytes.invariant.begun few) (taken-byte _ _ _ c.in_ok-byte.ensures.byte);
     }
 
 pub returns-clause-taken : goal.returns-clause-taken
@@ -108,3 +118,29 @@ returns-clause-cause g c =
     let all : 65536 ≤ length c.bytes.front.items = search rules in
     front-long (g.S.Shelf.rest c.args.shelf.now) (g.S.Shelf.rest c.bytes.shelf) c.bytes.front.items c.bytes.start c.bytes.invariant.begun
     c.bytes.invariant.came all
+
+pub returns-in_err-byte-clause-no_further : goal.returns-in_err-byte-clause-no_further
+returns-in_err-byte-clause-no_further g c =
+    let few : length c.bytes.front.items < 65536 = search rules in
+    ends-open _ _ _ c.bytes.front.items c.bytes.invariant.came
+    (open-lines c.bytes.front.items c.bytes.start c.bytes.invariant.begun few) (TakesAtMost-none 1 _ _ c.in_err-byte.ensures.kept)
+
+pub returns-in_err-byte-clause-undecided : goal.returns-in_err-byte-clause-undecided
+returns-in_err-byte-clause-undecided g c =
+    let few : length c.bytes.front.items < 65536 = search rules in
+    let p = err_from_is_err_and c.from_residual-in_err-byte.result c.from_residual-in_err-byte.ensures.1 in
+    rw (p.1, p.2)
+    (blame-kept c.in_err-byte.field-0.0 IsOpenHeader _ _ _ c.bytes.front.items c.bytes.invariant.came
+    (open-lines c.bytes.front.items c.bytes.start c.bytes.invariant.begun few) (some-all _ c.in_err-byte.ensures.kept))
+
+pub returns-in_default-clause-no_further : goal.returns-in_default-clause-no_further
+returns-in_default-clause-no_further g c =
+    let few : length c.bytes.front.items < 65536 = search rules in
+    ends-open _ _ _ c.bytes.front.items c.bytes.invariant.came
+    (open-lines c.bytes.front.items c.bytes.start c.bytes.invariant.begun few) (taken-byte _ _ _ c.in_ok-byte.ensures.byte)
+
+pub returns-then-ends-clause-no_further : goal.returns-then-ends-clause-no_further
+returns-then-ends-clause-no_further g c =
+    let few : length c.bytes.front.items < 65536 = search rules in
+    ends-open _ _ _ c.bytes.front.items c.bytes.invariant.came
+    (open-lines c.bytes.front.items c.bytes.start c.bytes.invariant.begun few) (taken-byte _ _ _ c.in_ok-byte.ensures.byte)

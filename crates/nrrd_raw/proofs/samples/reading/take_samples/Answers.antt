@@ -1,4 +1,4 @@
-use Rattle.std.proofs.Common.{◌≡◌, ◌+◌, ◌*◌, ◌≤◌, ◌∷◌, [], length, arith, ap, ◌∙◌, vec_len}
+use Rattle.std.proofs.Common.{◌≡◌, ℕ, List, take, sym, ◌+◌, ◌*◌, ◌<◌, ◌≤◌, ◌∷◌, [], length, arith, ap, ◌∙◌, vec_len, length-append}
 use Rattle.std.proofs.Math.Nat.{mul-le-mul_right}
 use Rattle.std.proofs.lemmas.List.{length-take}
 use Rattle.std.proofs.lemmas.Result.{err_from_is_err_and}
@@ -6,7 +6,8 @@ use Rattle.std.specs.Io.KnownBytes.{Consumes}
 use Rattle.iso_formats.specs.GridFile.{Header}
 use Rattle.iso_base.proofs.SameShelf.{IsSameShelf-then}
 use Rattle.nrrd_raw.proofs.TakenLaws.{TakesAtMost-then, TakesAtMost-consumed}
-use Rattle.nrrd_raw.proofs.ReadLaws.{ReadsSamples-more, IsDataFault-cut, IsDataFault-trailing}
+use Rattle.nrrd_raw.proofs.ReadLaws.{ReadsSamples-more, IsCutOff-then}
+use Rattle.nrrd_raw.proofs.OpenLaws.{blame-then}
 use Rattle.nrrd_raw.proofs.samples.reading.take_samples.Goals as goal
 
 pub pieces-preserved : goal.pieces-preserved
@@ -39,31 +40,32 @@ returns-in_err-take_piece-clause-taken g c =
     mul-le-mul_right c.from-width.result room in
     let piece : length c.take_piece.new.piece ≤ c.min-more.result * c.from-width.result =
     omega (arith, c.take_piece.auto.piece, length-take (c.min-more.result * c.from-width.result) c.pieces.piece) in
-    TakesAtMost-then (vec_len c.pieces.samples * c.from-width.result) (length c.take_piece.new.piece) (c.args.count * c.args.header.now.width + 1) _ _ _
+    TakesAtMost-then (vec_len c.pieces.samples * c.from-width.result) (length c.take_piece.new.piece) (c.args.count * c.args.header.now.width) _ _ _
     c.pieces.invariant.taken c.take_piece.ensures.taken (rw (← w) (omega (arith, piece, most)))
 
-pub returns-in_err-take_piece-clause-cause : goal.returns-in_err-take_piece-clause-cause
-returns-in_err-take_piece-clause-cause g c =
+pub returns-in_err-take_piece-clause-cut : goal.returns-in_err-take_piece-clause-cut
+returns-in_err-take_piece-clause-cut g c =
     let room : vec_len c.pieces.samples + c.min-more.result ≤ c.args.count =
     omega (arith, c.min-more.ensures, c.len-in-pieces.ensures, c.pieces.invariant.few) in
     let e = c.in_err-take_piece.ensures in
     let p = err_from_is_err_and c.from_residual.result c.from_residual.ensures.1 in
     rw (p.1, p.2)
-    (IsDataFault-cut c.args.header.now _ _ _ (vec_len c.pieces.samples) c.min-more.result c.args.count _ c.in_err-take_piece.field-0.0
+    (IsCutOff-then c.args.header.now _ _ _ (vec_len c.pieces.samples) c.min-more.result c.args.count _ c.in_err-take_piece.field-0.0
     c.pieces.invariant.read room e.causes e.cut)
 
-pub returns-in-Some-clause-taken : goal.returns-in-Some-clause-taken
-returns-in-Some-clause-taken g c =
+pub returns-in_err-take_piece-clause-undecided : goal.returns-in_err-take_piece-clause-undecided
+returns-in_err-take_piece-clause-undecided g c =
     let w : c.from-width.result ≡ c.args.header.now.width = c.from-width.ensures ∙ ap (λ (h : Header). h.width) c.header.view_is in
-    let all : vec_len c.pieces.samples ≡ c.args.count = omega arith in
-    let byte : Consumes (g.S.Shelf.rest c.pieces.shelf) (g.S.Shelf.rest c.take_byte.new.shelf) (c.in-Some.field-0 ∷ []) =
-    rw c.in-Some.is at c.in_ok-take_byte.ensures.byte in
-    TakesAtMost-then (vec_len c.pieces.samples * c.from-width.result) 1 (c.args.count * c.args.header.now.width + 1) _ _ _
-    c.pieces.invariant.taken (TakesAtMost-consumed 1 _ _ (c.in-Some.field-0 ∷ []) byte (omega arith)) (rw (← w, all) (omega arith))
-
-pub returns-in-Some-clause-cause : goal.returns-in-Some-clause-cause
-returns-in-Some-clause-cause g c =
-    let all : vec_len c.pieces.samples ≡ c.args.count = omega arith in
-    let byte : Consumes (g.S.Shelf.rest c.pieces.shelf) (g.S.Shelf.rest c.take_byte.new.shelf) (c.in-Some.field-0 ∷ []) =
-    rw c.in-Some.is at c.in_ok-take_byte.ensures.byte in
-    IsDataFault-trailing c.args.header.now _ _ _ (vec_len c.pieces.samples) c.args.count c.in-Some.field-0 _ c.pieces.invariant.read all byte
+    let room : c.min-more.result + vec_len c.pieces.samples ≤ c.args.count =
+    omega (arith, c.min-more.ensures, c.len-in-pieces.ensures, c.pieces.invariant.few) in
+    let most : (c.min-more.result + vec_len c.pieces.samples) * c.from-width.result ≤ c.args.count * c.from-width.result =
+    mul-le-mul_right c.from-width.result room in
+    let piece : length (take (c.min-more.result * c.from-width.result) c.pieces.piece) ≤ c.min-more.result * c.from-width.result =
+    omega (arith, length-take (c.min-more.result * c.from-width.result) c.pieces.piece) in
+    let read = c.pieces.invariant.read in
+    let whole : length read.came ≡ vec_len c.pieces.samples * c.from-width.result = read.whole ∙ ap (λ k. vec_len c.pieces.samples * k) (sym w) in
+    let p = err_from_is_err_and c.from_residual.result c.from_residual.ensures.1 in
+    rw (p.1, p.2)
+    (blame-then c.in_err-take_piece.field-0.0 _ (λ (bs : List ℕ). length bs < c.args.count * c.args.header.now.width) _ _ _ read.came read.taken
+    (λ bs l. rw (← w) (omega (arith, length-append read.came bs, whole, most, l, piece)))
+    c.in_err-take_piece.ensures.undecided)
