@@ -3,3 +3,5 @@ pub mod TakenMembers
 pub mod FaceOf
 pub mod SignedFaces
 pub mod FaceLists
+pub mod RoundPlaces
+pub mod RoundWalks

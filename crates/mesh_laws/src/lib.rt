@@ -1,10 +1,14 @@
-//! Meshes, and the faces of their simplices, counted and with signs.
+//! Meshes, the faces of their simplices, counted and with signs, and the walk round a vertex.
 #![tactic(auto)]
 
 mod face;
 mod mesh;
+mod rounds;
 #[cfg(test)]
 mod tests;
+mod walks;
 
 pub use face::{face_count, face_sum};
 pub use mesh::Mesh;
+pub use rounds::{Corner, WalkRoom, walk_round};
+pub use walks::{Trail, turned, walk};

@@ -1,6 +1,6 @@
-//! Faces of some triangles, segments and tetrahedra.
+//! Faces of some triangles, segments and tetrahedra, and walks round vertices.
 
-use crate::{Mesh, face_count, face_sum};
+use crate::{Mesh, face_count, face_sum, walk};
 use std::test::Fail;
 
 // Six triangles round vertex 6, and one with a repeated number.
@@ -64,5 +64,93 @@ fn a_mesh_has_its_parts(rt: HostRuntime) -> Result<(), Fail> {
     };
     assert_eq!(rt; mesh.vertices.len(), 2);
     assert_eq!(rt; mesh.simplices.as_slice(), [[0, 1]].as_slice());
+    Ok(())
+}
+
+/// The isosurface round two opposite corners of a cube.
+const OPPOSITE_CORNERS: [[u32; 3]; 6] = [
+    [0, 3, 1],
+    [0, 2, 4],
+    [0, 4, 3],
+    [1, 5, 2],
+    [1, 3, 5],
+    [2, 5, 4],
+];
+
+/// A walk, where memory is ample.
+struct Walk {
+    triangles: &'static [[u32; 3]],
+    vertex: u32,
+    order: &'static [u32],
+    closed: bool,
+    whole: bool,
+}
+
+const WALKS: [Walk; 7] = [
+    Walk {
+        triangles: &OPPOSITE_CORNERS,
+        vertex: 0,
+        order: &[1, 2, 0],
+        closed: false,
+        whole: true,
+    },
+    Walk {
+        triangles: &TRIANGLES,
+        vertex: 6,
+        order: &[0, 1, 4, 5, 3, 2],
+        closed: true,
+        whole: true,
+    },
+    // No triangle is at the vertex.
+    Walk {
+        triangles: &TRIANGLES,
+        vertex: 9,
+        order: &[],
+        closed: false,
+        whole: true,
+    },
+    // The walk comes back to one that is not its first.
+    Walk {
+        triangles: &[[0, 1, 2], [0, 2, 3], [0, 3, 2], [0, 4, 1]],
+        vertex: 0,
+        order: &[3, 0, 1, 2],
+        closed: false,
+        whole: true,
+    },
+    // A path beside a cycle.
+    Walk {
+        triangles: &[[0, 4, 5], [0, 5, 4], [0, 1, 2], [0, 2, 3]],
+        vertex: 0,
+        order: &[2, 3],
+        closed: false,
+        whole: false,
+    },
+    // Of two candidates the first one in the list is taken.
+    Walk {
+        triangles: &[[1, 2, 0], [0, 2, 3], [4, 0, 2], [3, 1, 0]],
+        vertex: 0,
+        order: &[0, 1, 3],
+        closed: true,
+        whole: false,
+    },
+    // Two triangles.
+    Walk {
+        triangles: &[[0, 1, 2], [2, 1, 0]],
+        vertex: 0,
+        order: &[0, 1],
+        closed: true,
+        whole: true,
+    },
+];
+
+#[test]
+fn walks_round_vertices(rt: HostRuntime) -> Result<(), Fail> {
+    for row in &WALKS {
+        let trail = walk(rt.alloc(), row.triangles, row.vertex)
+            .ok()
+            .ok_or("memory")?;
+        assert_eq!(rt; trail.order.as_slice(), row.order);
+        assert_eq!(rt; (trail.closed, trail.whole), (row.closed, row.whole));
+    }
     Ok(())
 }
