@@ -5,3 +5,5 @@ pub mod SignedFaces
 pub mod FaceLists
 pub mod RoundPlaces
 pub mod RoundWalks
+pub mod OnceInLists
+pub mod FaceKeyLists

@@ -14,6 +14,7 @@ use Rattle.lists.proofs.Contained.{Contains-head, any_default}
 use Rattle.lists.proofs.Counts.{not_there}
 use Rattle.iso_model.proofs.WalkLaws.{has-Decides}
 use Rattle.mesh_laws.specs.declared.rounds.Begin.{Begin}
+use Rattle.mesh_laws.proofs.FaceOf.{In-at}
 use Rattle.mesh_laws.specs.Rounds.{AreBegins, AreEnds, AreListed, IsFirstPlace, LacksPlace, IsFirstWith}
 
 pub below_or : (k i : ℕ) → (k < i) ⊎ (i ≤ k)
@@ -136,16 +137,11 @@ find_with test ts ps p None same asks lacks =
 
 -- ---- lists in which no member stands twice
 
-In_at : (xs : List ℕ) (i : ℕ) → i < length xs → In (slice_index xs i) xs
-In_at [] i h = absurd (omega arith)
-In_at (x ∷ xs) zero h = inl refl
-In_at (x ∷ xs) (suc i) h = inr (In_at xs i (omega arith))
-
 pub same_place : (xs : List ℕ) (i j : ℕ) → Distinct xs → i < length xs → j < length xs → slice_index xs i ≡ slice_index xs j → i ≡ j
 same_place [] i j d h l e = absurd (omega arith)
 same_place (x ∷ xs) zero zero d h l e = refl
 same_place (x ∷ xs) zero (suc j) d h l e =
-    absurd (not_there x xs d.0 (subst (λ (y : ℕ). In y xs) (sym e) (In_at xs j (omega arith))))
+    absurd (not_there x xs d.0 (subst (λ (y : ℕ). In y xs) (sym e) (In-at xs j (omega arith))))
 same_place (x ∷ xs) (suc i) zero d h l e =
-    absurd (not_there x xs d.0 (subst (λ (y : ℕ). In y xs) e (In_at xs i (omega arith))))
+    absurd (not_there x xs d.0 (subst (λ (y : ℕ). In y xs) e (In-at xs i (omega arith))))
 same_place (x ∷ xs) (suc i) (suc j) d h l e = ap suc (same_place xs i j d.1 (omega arith) (omega arith) e)

@@ -2,7 +2,7 @@
 use Rattle.std.proofs.Common.{Bool, List, [], ap, arith, false, inl, inr, length, refl, subst, suc, sym, true, zero, ℕ, ◌++◌, ◌+◌, ◌<◌, ◌≤◌, ◌∙◌, ◌∷◌, ◌≡◌}
 use Rattle.std.specs.Prelude.{All, Contains, Option, Some, None, find, nat_eq, option_and_then, slice_index, slice_index_or, slice_set}
 use Rattle.std.specs.Prelude.{cond, IfSome, ◌==◌, ◌||◌, not, is_some, filter}
-use Rattle.std.specs.List.{AllAdjacentBelow, list_any, last_or, range_with_len}
+use Rattle.std.specs.List.{AllAdjacentBelow, list_any, last_or}
 use Rattle.std.specs.Option.{option_eq, option_map_or, option_or}
 use Rattle.std.proofs.lemmas.Bool.{cases_eq, and_from}
 use Rattle.std.proofs.lemmas.List.{get_or_push, get_or_append_left, get_or-map, get_or-set_same, get_or-set_other, length_push}
@@ -13,7 +13,7 @@ use Rattle.lists.specs.Orders.{has, is_distinct, numbers}
 use Rattle.lists.specs.Members.{Distinct}
 use Rattle.lists.proofs.Contained.{Contains-split, Contains-at, none_contained}
 use Rattle.lists.proofs.DistinctLists.{Distinct-filter, Distinct-range, has-push, distinct-push}
-use Rattle.lists.proofs.MemberLaws.{last_is}
+use Rattle.lists.proofs.MemberLaws.{last_is, range-push}
 use Rattle.lists.proofs.Tests.{equal_self, nat_eq-sym, same_number, same_tests}
 use Rattle.iso_model.specs.Walks.{reading, triangles_at, has_p, has_q, next_at, is_start, next_after, comes_back, walk_from, first_triangle, Trail, walk}
 use Rattle.iso_model.proofs.WalkLaws.{has-Decides, length-distinct-le, walk_from-fixed}
@@ -51,12 +51,6 @@ starts_more corners n d before h found i l = elim (below_or i n) as (λ _. has (
       ap (λ (k : ℕ). has (qs_of corners) (slice_index (ps_of corners) k)) same ∙ ap (has (qs_of corners)) (p_at corners n d h) ∙ found
 ]
 
-numbers_more : (a n : ℕ) → range_with_len a (suc n) ≡ range_with_len a n ++ ((a + n) ∷ [])
-numbers_more a zero = let same : a ≡ a + 0 = omega arith in ap (λ (x : ℕ). x ∷ []) same
-numbers_more a (suc n) =
-    let same : a + 1 + n ≡ a + suc n = omega arith in
-    ap (λ (xs : List ℕ). a ∷ xs) (numbers_more (a + 1) n ∙ ap (λ (x : ℕ). range_with_len (a + 1) n ++ (x ∷ [])) same)
-
 -- one triangle more
 pub corners_more : (n : ℕ) (simplices : List (List ℕ)) (k : ℕ) (corners : List Corner) → n < length simplices → AreCornersBelow n simplices k corners
     → AreCornersBelow (n + 1) simplices k (corners ++ corner_of n (reading simplices k n))
@@ -65,13 +59,10 @@ corners_more n simplices k corners h a = by_reading (reading simplices k n) refl
     at_n : 0 + n ≡ n
     at_n = omega arith
 
-    next : n + 1 ≡ suc n
-    next = omega arith
-
     one_more : filter (λ t. is_some (reading simplices k t)) (numbers (n + 1))
         ≡ filter (λ t. is_some (reading simplices k t)) (numbers n) ++ cond (is_some (reading simplices k n)) (n ∷ []) []
     one_more =
-        ap (filter (λ t. is_some (reading simplices k t))) (ap numbers next ∙ numbers_more 0 n ∙ ap (λ (x : ℕ). numbers n ++ (x ∷ [])) at_n)
+        ap (filter (λ t. is_some (reading simplices k t))) (range-push 0 n ∙ ap (λ (x : ℕ). numbers n ++ (x ∷ [])) at_n)
         ∙ filter-append (λ t. is_some (reading simplices k t)) (numbers n) (n ∷ [])
 
     by_reading : (o : Option (ℕ × ℕ)) → reading simplices k n ≡ o → AreCornersBelow (n + 1) simplices k (corners ++ corner_of n o)

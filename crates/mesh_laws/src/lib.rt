@@ -2,6 +2,7 @@
 #![tactic(auto)]
 
 mod face;
+mod free;
 mod mesh;
 mod rounds;
 #[cfg(test)]
@@ -9,6 +10,7 @@ mod tests;
 mod walks;
 
 pub use face::{face_count, face_sum};
+pub use free::free_faces;
 pub use mesh::Mesh;
 pub use rounds::{Corner, WalkRoom, walk_round};
 pub use walks::{Trail, turned, walk};

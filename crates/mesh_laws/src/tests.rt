@@ -1,6 +1,6 @@
 //! Faces of some triangles, segments and tetrahedra, and walks round vertices.
 
-use crate::{Mesh, face_count, face_sum, walk};
+use crate::{Mesh, face_count, face_sum, free_faces, walk};
 use std::test::Fail;
 
 // Six triangles round vertex 6, and one with a repeated number.
@@ -152,5 +152,20 @@ fn walks_round_vertices(rt: HostRuntime) -> Result<(), Fail> {
         assert_eq!(rt; trail.order.as_slice(), row.order);
         assert_eq!(rt; (trail.closed, trail.whole), (row.closed, row.whole));
     }
+    Ok(())
+}
+
+#[test]
+fn faces_of_one_simplex(rt: HostRuntime) -> Result<(), Fail> {
+    let segment = free_faces(rt.alloc(), &[[0, 1]]).ok().ok_or("memory")?;
+    assert_eq!(rt; segment, 2);
+    // The six edges that the sides of the cube have in common with the isosurface.
+    let triangles = free_faces(rt.alloc(), &OPPOSITE_CORNERS)
+        .ok()
+        .ok_or("memory")?;
+    assert_eq!(rt; triangles, 6);
+    let tetrahedra = [[0, 1, 2, 3], [4, 2, 1, 3], [3, 0, 1, 5]];
+    let tetrahedra = free_faces(rt.alloc(), &tetrahedra).ok().ok_or("memory")?;
+    assert_eq!(rt; tetrahedra, 8);
     Ok(())
 }
