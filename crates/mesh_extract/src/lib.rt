@@ -5,7 +5,9 @@ ghost use Rattle.std.specs.Prelude.{◌≡◌, ◌^◌, ◌<◌, ◌≤◌, None
 ghost use Rattle.iso_model.specs.Values.{IsRegularGrid, volume};
 ghost use Rattle.iso_model.specs.Faces.{IsMesh};
 ghost use Rattle.iso_model.specs.Isosurfaces.{IsIsosurface};
+ghost use Rattle.iso_model.specs.Links.{IsLinkedByWalks};
 ghost use Rattle.iso_model.specs.Placed.{placed_mesh};
+ghost use Rattle.iso_model.specs.Surface.{FacesAreOuter};
 
 use grid_split::Split;
 use iso_base::Memory;
@@ -32,6 +34,8 @@ pub fn extract<C: Split<D>, const D: usize>(
     requires iso { unsigned_abs iso ≤ 2 ^ 40 }
     ensures surface { IfOk result (IsIsosurface (volume C.KIND grid.now iso None)) }
     ensures mesh { IfOk result (λ mesh. mesh ≡ placed_mesh (volume C.KIND grid.now iso None) table.now) }
+    ensures outer { IfOk result (λ mesh. FacesAreOuter (volume C.KIND grid.now iso None) mesh.simplices) }
+    ensures walks { D ≡ 3 → IfOk result (λ mesh. IsLinkedByWalks (volume C.KIND grid.now iso None) mesh.simplices) }
     ensures shape { IfOk result (IsMesh D) }
     ensures vertices { IfOk result (λ mesh. All (All (λ number. number < length mesh.vertices)) mesh.simplices) }
 {
