@@ -4,10 +4,10 @@
 ghost use Rattle.std.specs.Prelude.{◌≡◌, ◌^◌, ◌<◌};
 ghost use Rattle.iso_model.specs.Splits.{cell_count};
 ghost use Rattle.iso_model.specs.Neighbours.{ShareLaw};
-ghost use Rattle.iso_model.specs.Values.{IsRegularGrid};
+ghost use Rattle.iso_model.specs.Values.{IsRegularGrid, volume};
 ghost use Rattle.iso_model.specs.Surface.{IsClosed, IsPlaced, IsSided, FacesAreOuter};
 ghost use Rattle.glue_faces.specs.EdgeSets.{edges_in};
-ghost use Rattle.glue_faces.specs.Placing.{whole, placed_simplices};
+ghost use Rattle.glue_faces.specs.Placing.{placed_simplices};
 
 #[cfg(test)]
 mod tests;
@@ -35,22 +35,25 @@ pub fn share_law<C: Split<D>, const D: usize>(
     let _ = complex.cells();
 }
 
-/// The face law: the mesh of a grid by an accepted table, at any isovalue, is closed, each of its simplices is of exactly
-/// one cell and turned to its positive side, and its boundary lies on the outer boundary of the grid.
+/// The face law: the mesh of a grid by an accepted table, at any isovalue, is closed, and each of its simplices is of
+/// exactly one kept cell and turned to its positive side. Where each cell is kept, its boundary lies on the outer boundary
+/// of the grid.
 ///
-/// The complex is that of the grid.
+/// The cells of a cube are kept where no blank value is given, or no sample of the cube equals it. The complex is that of
+/// the grid.
 pub fn face_law<C: Split<D>, const D: usize>(
     table: &Checked<C, D>,
     complex: &Complex<C, D>,
     grid: &Grid,
     iso: i64,
+    blank: Option<i64>,
 )
     requires regular { IsRegularGrid grid.now }
     requires sizes { complex.now ≡ grid.now.sizes }
-    ensures closed { IsClosed (whole C.KIND grid.now iso) (placed_simplices C.KIND grid.now iso table.now) }
-    ensures placed { IsPlaced (whole C.KIND grid.now iso) (placed_simplices C.KIND grid.now iso table.now) }
-    ensures sided { IsSided (whole C.KIND grid.now iso) (placed_simplices C.KIND grid.now iso table.now) }
-    ensures outer { FacesAreOuter (whole C.KIND grid.now iso) (placed_simplices C.KIND grid.now iso table.now) }
+    ensures closed { IsClosed (volume C.KIND grid.now iso blank) (placed_simplices C.KIND grid.now iso blank table.now) }
+    ensures placed { IsPlaced (volume C.KIND grid.now iso blank) (placed_simplices C.KIND grid.now iso blank table.now) }
+    ensures sided { IsSided (volume C.KIND grid.now iso blank) (placed_simplices C.KIND grid.now iso blank table.now) }
+    ensures outer { FacesAreOuter (volume C.KIND grid.now iso blank) (placed_simplices C.KIND grid.now iso blank table.now) }
 {
     let _ = table.table();
     let _ = complex.cells();

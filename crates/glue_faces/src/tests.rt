@@ -71,7 +71,8 @@ fn the_face_law_is_one_of_accepted_tables(rt: HostRuntime) -> Result<(), Fail> {
         Ok(checked) => {
             let grid = one_square(alloc)?;
             let squares = Complex::new([2, 2]);
-            face_law(&checked, &squares, &grid, 5);
+            face_law(&checked, &squares, &grid, 5, None);
+            face_law(&checked, &squares, &grid, 5, Some(10));
             assert_eq!(rt; squares.cells(), 1);
             Ok(())
         }

@@ -11,6 +11,7 @@ pub mod OuterEdges
 pub mod OneArc
 pub mod LinkedByWalks
 pub mod GridSurface
+pub mod KeptSurface
 pub mod RingWalks
 pub mod SameEdges
 pub mod KeptRings

@@ -1,4 +1,5 @@
-use Rattle.surface_laws.proofs.GridSurface.{suits_grid, closed, placed, sided, outer}
+use Rattle.surface_laws.proofs.GridSurface.{suits_grid}
+use Rattle.surface_laws.proofs.KeptSurface.{closed, placed, sided, outer}
 use Rattle.glue_faces.proofs.face_law.Goals as goal
 
 pub returns : goal.returns
@@ -7,8 +8,8 @@ returns g c =
     c.requires.regular c.table.ensures.whole c.table.ensures.accepted c.table.ensures.kind c.table.ensures.dimension c.table.ensures.same
     c.cells.ensures.axes c.requires.sizes in
     record {
-      closed = closed g.C.Cell.KIND c.args.grid.now c.args.table.now c.args.iso suits;
-      placed = placed g.C.Cell.KIND c.args.grid.now c.args.table.now c.args.iso suits;
-      sided = sided g.C.Cell.KIND c.args.grid.now c.args.table.now c.args.iso suits;
-      outer = outer g.C.Cell.KIND c.args.grid.now c.args.table.now c.args.iso suits;
+      closed = closed g.C.Cell.KIND c.args.grid.now c.args.table.now c.args.iso c.args.blank suits;
+      placed = placed g.C.Cell.KIND c.args.grid.now c.args.table.now c.args.iso c.args.blank suits;
+      sided = sided g.C.Cell.KIND c.args.grid.now c.args.table.now c.args.iso c.args.blank suits;
+      outer = outer g.C.Cell.KIND c.args.grid.now c.args.table.now c.args.iso c.args.blank suits;
     }
