@@ -1,5 +1,5 @@
 -- What a word gives for a key, and that it has a key of a command.
-use Rattle.std.proofs.Common.{◌≡◌, ℕ, Bool, true, false, cond, ◌&&◌, ◌||◌, List, [], ◌∷◌, Some, None, refl, ◌∙◌, ap}
+use Rattle.std.proofs.Common.{◌≡◌, ℕ, Bool, true, false, cond, ◌&&◌, ◌||◌, List, [], ◌∷◌, map, Option, Some, None, refl, sym, ◌∙◌, ap}
 use Rattle.std.specs.List.{AllByRecursion, list_any, before_first, after_first}
 use Rattle.std.specs.Prelude.{nat_eq}
 use Rattle.std.proofs.lemmas.Bool.{and_parts}
@@ -10,7 +10,7 @@ use Rattle.iso_words.specs.declared.keys.Key.{Key}
 use Rattle.iso_words.specs.declared.keys.Key.TheVariants.{Kind, Dim, Table, Grid, Iso}
 use Rattle.iso_words.specs.declared.keys.CommandName.{CommandName}
 use Rattle.iso_words.specs.declared.keys.CommandName.TheVariants.{Generate, Check, Extract}
-use Rattle.iso_words.specs.Keys.{key_text, keys_of, has_key}
+use Rattle.iso_words.specs.Keys.{key_text, name_text, own_keys, keys_of, has_key}
 
 some_test : {A : Type 0} (t : Bool) (x v : A) → cond t (Some x) None ≡ Some v → t ≡ true
 some_test true x v e = refl
@@ -43,24 +43,7 @@ has_key_of-some keys key word v e =
 
 pub has_key_of-key : (name : CommandName) (key : Key) (word v : List ℕ) → value_for (key_text key) word ≡ Some v
     → has_key_of (keys_of name) word ≡ has_key name key
-has_key_of-key name key word v e = has_key_of-some (keys_of name) (key_text key) word v e ∙ known name key
-  where
-    known : (n : CommandName) (k : Key) → list_any (same_list (key_text k)) (keys_of n) ≡ has_key n k
-    known Generate Kind = refl
-    known Generate Dim = refl
-    known Generate Table = refl
-    known Generate Grid = refl
-    known Generate Iso = refl
-    known Check Kind = refl
-    known Check Dim = refl
-    known Check Table = refl
-    known Check Grid = refl
-    known Check Iso = refl
-    known Extract Kind = refl
-    known Extract Dim = refl
-    known Extract Table = refl
-    known Extract Grid = refl
-    known Extract Iso = refl
+has_key_of-key name key word v e = has_key_of-some (keys_of name) (key_text key) word v e
 
 and_or : (a b c : Bool) → (a && b) ≡ false → (a && c) ≡ false → (a && (b || c)) ≡ false
 and_or false b c e f = refl
@@ -75,6 +58,56 @@ has_key_of-none (key ∷ keys) word none =
     and_or (has word 61) (same_list b key) (list_any (same_list b) keys) (none_test _ _ none.0) (has_key_of-none keys word none.1)
 
 pub has_key_of-no_key : (name : CommandName) (word : List ℕ) → ((key : Key) → value_for (key_text key) word ≡ None) → has_key_of (keys_of name) word ≡ false
-has_key_of-no_key Generate word none = has_key_of-none (keys_of Generate) word (none Kind, (none Dim, tt))
-has_key_of-no_key Check word none = has_key_of-none (keys_of Check) word (none Table, tt)
-has_key_of-no_key Extract word none = has_key_of-none (keys_of Extract) word (none Table, (none Grid, (none Iso, tt)))
+has_key_of-no_key name word none = has_key_of-none (keys_of name) word (all (own_keys name))
+  where
+    all : (keys : List Key) → AllByRecursion (λ key. value_for key word ≡ None) (map key_text keys)
+    all [] = tt
+    all (key ∷ keys) = (none key, all keys)
+
+-- ---- keys and commands are told by their words
+
+-- the first of a list that has this word
+abbrev with_word : {A : Type 0} → (A → List ℕ) → List ℕ → List A → Option A
+with_word word_of word [] = None
+with_word word_of word (x ∷ xs) = cond (same_list word (word_of x)) (Some x) (with_word word_of word xs)
+
+one_word : {A : Type 0} (word_of : A → List ℕ) (all : List A) → ((x : A) → with_word word_of (word_of x) all ≡ Some x)
+    → (x y : A) → word_of x ≡ word_of y → x ≡ y
+one_word word_of all found x y e = same_some (sym (found x) ∙ ap (λ (w : List ℕ). with_word word_of w all) e ∙ found y)
+  where
+    same_some : Some x ≡ Some y → x ≡ y
+    same_some e = cc
+
+abbrev every_key : List Key
+every_key =
+    Kind
+    ∷ Dim
+    ∷ Table
+    ∷ Grid
+    ∷ Iso
+    ∷ []
+
+key_found : (key : Key) → with_word key_text (key_text key) every_key ≡ Some key
+key_found Kind = refl
+key_found Dim = refl
+key_found Table = refl
+key_found Grid = refl
+key_found Iso = refl
+
+pub key_text-one : (k l : Key) → key_text k ≡ key_text l → k ≡ l
+key_text-one = one_word key_text every_key key_found
+
+abbrev every_name : List CommandName
+every_name =
+    Generate
+    ∷ Check
+    ∷ Extract
+    ∷ []
+
+name_found : (name : CommandName) → with_word name_text (name_text name) every_name ≡ Some name
+name_found Generate = refl
+name_found Check = refl
+name_found Extract = refl
+
+pub name_text-one : (m n : CommandName) → name_text m ≡ name_text n → m ≡ n
+name_text-one = one_word name_text every_name name_found

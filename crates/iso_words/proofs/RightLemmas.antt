@@ -1,7 +1,7 @@
 -- What a right list of words has, by the name of its command; and a list that gave right values so far goes on to a right one.
-use Rattle.std.proofs.Common.{◌≡◌, ℕ, Bool, true, false, List, [], ◌∷◌, ◌++◌, Option, Some, refl, sym, ◌∙◌, ap, subst, Bor, w64, of_z, to_z, to_z-of_z}
+use Rattle.std.proofs.Common.{◌≡◌, ℕ, Bool, true, false, ◌||◌, List, [], ◌∷◌, ◌++◌, map, Option, Some, refl, sym, ◌∙◌, ap, subst, Bor, w64, of_z, to_z, to_z-of_z}
 use Rattle.std.specs.Prelude.{ℤ, codes, IsTrue}
-use Rattle.std.specs.List.{AllPass, list_all}
+use Rattle.std.specs.List.{AllByRecursion, AllPass, list_all, list_any}
 use Rattle.std.specs.Option.{option_copied}
 use Rattle.std.proofs.lemmas.Bool.{false≢true, and_parts}
 use Rattle.std.proofs.lemmas.List.Sums.{list_all-from_AllPass}
@@ -15,11 +15,13 @@ use Rattle.iso_words.specs.declared.keys.CommandName.{CommandName}
 use Rattle.iso_words.specs.declared.keys.CommandName.TheVariants.{Generate, Check, Extract}
 use Rattle.iso_words.specs.declared.given.Given.{Given}
 use Rattle.iso_words.specs.Built.{is_built}
-use Rattle.iso_words.specs.Keys.{name_text, keys_of, has_key}
+use Rattle.iso_words.specs.Keys.{key_text, name_text, own_keys, keys_of, has_key}
 use Rattle.iso_words.specs.Given.{IsKind, IsDimension, IsFile, IsIsovalue, Fit, values_of, Stood, Gave}
 use Rattle.iso_words.proofs.NumberLemmas.{isovalue_fits}
 use Rattle.iso_words.proofs.KindLemmas.{HasDimension-limits}
-use Rattle.lists.proofs.MemberLaws.{same_head}
+use Rattle.iso_words.proofs.KeyLemmas.{key_text-one, name_text-one}
+use Rattle.lists.specs.Orders.{same_list}
+use Rattle.lists.proofs.MemberLaws.{lists_equal, same_head}
 
 -- a kind and a dimension stand once each, and go together
 abbrev pub StandTogether : List (List ℕ) → Type 0
@@ -38,50 +40,74 @@ StandsOnce Iso further = (n : ℤ) × Stood IsIsovalue (Some n) (values_of (code
 -- what stands behind the name of a command in a right list
 pub record HasKeys (name : CommandName) (further : List (List ℕ)) : Type 0 where
   pub keyed : AllPass (has_key_of (keys_of name)) further
-  pub once : (key : Key) → has_key name key ≡ true → StandsOnce key further
+  pub once : AllByRecursion (λ key. StandsOnce key further) (own_keys name)
+
+-- the values of a command
+abbrev pub Values : CommandName → Type 0
+Values Generate = CellKind × ℕ
+Values Check = List ℕ
+Values Extract = List ℕ × List ℕ × ℤ
+
+-- the command of a name with these values
+abbrev pub with_values : (name : CommandName) → Values name → Asked
+with_values Generate (kind, d) = generate_command kind d
+with_values Check table = check_command table
+with_values Extract (table, grid, iso) = extract_command table grid iso
+
+-- each command that is built has a name
+pub built_values : (c : Asked) → IsTrue (is_built c) → (name : CommandName) × (values : Values name) × (c ≡ with_values name values)
+built_values (generate_command kind d) b = (Generate, (kind, d), refl)
+built_values (check_command table) b = (Check, table, refl)
+built_values (extract_command table grid iso) b = (Extract, (table, grid, iso), refl)
+built_values (demo_command kind d size seed) b = absurd (false≢true b)
+
+-- the words that say it begin with this name
+pub begins_named : (name : CommandName) (values : Values name) (words : List (List ℕ)) → Say words (with_values name values)
+    → (further : List (List ℕ)) × (words ≡ name_text name ∷ further)
+begins_named Generate values words s = s.are_for.named
+begins_named Check values words s = s.are_for.named
+begins_named Extract values words s = s.are_for.named
+
+pub begins-one : (m n : CommandName) (values : Values n) (words further : List (List ℕ)) → words ≡ name_text m ∷ further → Say words (with_values n values) → m ≡ n
+begins-one m n values words further e s =
+    let named = begins_named n values words s in
+    name_text-one m n (same_head (name_text m) (name_text n) further named.0 (sym e ∙ named.1))
+
+-- and have each of its keys once, with a value that it may have
+has_keys : (name : CommandName) (values : Values name) (further : List (List ℕ)) → Say (name_text name ∷ further) (with_values name values) → HasKeys name further
+has_keys Generate (kind, d) further s =
+    let limits = HasDimension-limits kind d s.fits in
+    let together : StandTogether further =
+    (kind, d, (kind_name kind, s.kind_is, refl), (s.dim_is.0, s.dim_is.1, (s.dim_is.2, limits.0, limits.1)), s.fits) in
+    record { keyed = s.are_for.keyed; once = (together, (together, tt)) }
+has_keys Check table further s = record { keyed = s.are_for.keyed; once = ((table, (table, s.table_is.0, (refl, s.table_is.1))), tt) }
+has_keys Extract (table, grid, iso) further s =
+    let table_once : StandsOnce Table further = (table, (table, s.table_is.0, (refl, s.table_is.1))) in
+    let grid_once : StandsOnce Grid further = (grid, (grid, s.grid_is.0, (refl, s.grid_is.1))) in
+    let iso_once : StandsOnce Iso further = (iso, (s.iso_is.0, s.iso_is.1, (s.iso_is.2, s.iso_from, s.iso_to))) in
+    record { keyed = s.are_for.keyed; once = (table_once, (grid_once, (iso_once, tt))) }
 
 pub HasKeys-from_right : (name : CommandName) (further : List (List ℕ)) → AreRight is_built (name_text name ∷ further) → HasKeys name further
-HasKeys-from_right name further right = go name right.0 right.1 right.2
+HasKeys-from_right name further right =
+    let words = name_text name ∷ further in
+    let built = built_values right.0 right.1 in
+    let said : Say words (with_values built.0 built.1) = subst (λ (c : Asked). Say words c) built.2 right.2 in
+    subst (λ (n : CommandName). (values : Values n) → Say words (with_values n values) → HasKeys name further)
+    (begins-one name built.0 built.1 words further refl said) (λ values s. has_keys name values further s) built.1 said
+
+-- a key of the command stands once
+pub stands_once : (name : CommandName) (further : List (List ℕ)) (key : Key) → HasKeys name further → has_key name key ≡ true → StandsOnce key further
+stands_once name further key has e = go (own_keys name) has.once e
   where
-    together : (kind : CellKind) (d : ℕ) → SayGenerate (codes "generate" ∷ further) kind d → StandTogether further
-    together kind d s =
-        let limits = HasDimension-limits kind d s.fits in
-        (kind, d, (kind_name kind, s.kind_is, refl), (s.dim_is.0, s.dim_is.1, (s.dim_is.2, limits.0, limits.1)), s.fits)
+    here : (k : Key) (keys : List Key) (b : Bool) → same_list (key_text key) (key_text k) ≡ b → StandsOnce k further
+        → (list_any (same_list (key_text key)) (map key_text keys) ≡ true → StandsOnce key further)
+        → (b || list_any (same_list (key_text key)) (map key_text keys)) ≡ true → StandsOnce key further
+    here k keys true same s later t = subst (λ (k : Key). StandsOnce k further) (sym (key_text-one key k (lists_equal _ _ same))) s
+    here k keys false same s later t = later t
 
-    generated : (kind : CellKind) (d : ℕ) → SayGenerate (codes "generate" ∷ further) kind d → (key : Key) → has_key Generate key ≡ true → StandsOnce key further
-    generated kind d s Kind e = together kind d s
-    generated kind d s Dim e = together kind d s
-    generated kind d s Table e = absurd (false≢true e)
-    generated kind d s Grid e = absurd (false≢true e)
-    generated kind d s Iso e = absurd (false≢true e)
-
-    checked : (table : List ℕ) → SayCheck (codes "check" ∷ further) table → (key : Key) → has_key Check key ≡ true → StandsOnce key further
-    checked table s Table e = (table, (table, s.table_is.0, (refl, s.table_is.1)))
-    checked table s Kind e = absurd (false≢true e)
-    checked table s Dim e = absurd (false≢true e)
-    checked table s Grid e = absurd (false≢true e)
-    checked table s Iso e = absurd (false≢true e)
-
-    extracted : (table grid : List ℕ) (iso : ℤ) → SayExtract (codes "extract" ∷ further) table grid iso → (key : Key) → has_key Extract key ≡ true → StandsOnce key further
-    extracted table grid iso s Kind e = absurd (false≢true e)
-    extracted table grid iso s Dim e = absurd (false≢true e)
-    extracted table grid iso s Table e = (table, (table, s.table_is.0, (refl, s.table_is.1)))
-    extracted table grid iso s Grid e = (grid, (grid, s.grid_is.0, (refl, s.grid_is.1)))
-    extracted table grid iso s Iso e = (iso, (s.iso_is.0, s.iso_is.1, (s.iso_is.2, s.iso_from, s.iso_to)))
-
-    go : (n : CommandName) (c : Asked) → IsTrue (is_built c) → Say (name_text n ∷ further) c → HasKeys n further
-    go Generate (generate_command kind d) b s = record { keyed = s.are_for.keyed; once = generated kind d s }
-    go Generate (check_command table) b s = let e = same_head _ _ _ _ s.are_for.named.1 in cc
-    go Generate (extract_command table grid iso) b s = let e = same_head _ _ _ _ s.are_for.named.1 in cc
-    go Generate (demo_command kind d size seed) b s = absurd (false≢true b)
-    go Check (check_command table) b s = record { keyed = s.are_for.keyed; once = checked table s }
-    go Check (extract_command table grid iso) b s = let e = same_head _ _ _ _ s.are_for.named.1 in cc
-    go Check (generate_command kind d) b s = let e = same_head _ _ _ _ s.are_for.named.1 in cc
-    go Check (demo_command kind d size seed) b s = absurd (false≢true b)
-    go Extract (check_command table) b s = let e = same_head _ _ _ _ s.are_for.named.1 in cc
-    go Extract (extract_command table grid iso) b s = record { keyed = s.are_for.keyed; once = extracted table grid iso s }
-    go Extract (generate_command kind d) b s = let e = same_head _ _ _ _ s.are_for.named.1 in cc
-    go Extract (demo_command kind d size seed) b s = absurd (false≢true b)
+    go : (keys : List Key) → AllByRecursion (λ k. StandsOnce k further) keys → list_any (same_list (key_text key)) (map key_text keys) ≡ true → StandsOnce key further
+    go [] all t = absurd (false≢true t)
+    go (k ∷ keys) all t = here k keys (same_list (key_text key) (key_text k)) refl all.0 (go keys all.1) t
 
 -- what is said, where each key stood
 pub SayGenerate-given : (further : List (List ℕ)) (kind : CellKind) (d : ℕ) → AllPass (has_key_of (keys_of Generate)) further
@@ -116,33 +142,32 @@ SayExtract-given further table grid iso keyed t g i = record {
 -- what `command` gives
 pub SayGenerate-from_gave : (name : CommandName) (further : List (List ℕ)) (given : Given) (kind : CellKind) (d : ℕ) → name ≡ Generate
     → given.kind ≡ Some kind → given.dim ≡ Some d → Gave name further given → SayGenerate (name_text name ∷ further) kind d
-SayGenerate-from_gave Generate further given kind d n k i g =
+SayGenerate-from_gave name further given kind d n k i = subst (λ (m : CommandName). Gave m further given → SayGenerate (name_text m ∷ further) kind d) (sym n) (λ g.
     SayGenerate-given further kind d g.keyed
     (subst (λ (o : Option CellKind). Stood IsKind o (values_of (codes "kind") further)) k g.kind)
     (subst (λ (o : Option ℕ). Stood IsDimension o (values_of (codes "dim") further)) i g.dim)
-    (subst (λ (o : Option ℕ). Fit (Some kind) o) i (subst (λ (o : Option CellKind). Fit o given.dim) k g.fits))
-SayGenerate-from_gave Check further given kind d n k i g = cc
-SayGenerate-from_gave Extract further given kind d n k i g = cc
+    (subst (λ (o : Option ℕ). Fit (Some kind) o) i (subst (λ (o : Option CellKind). Fit o given.dim) k g.fits)))
+
+file_stood : (key : List ℕ) (further : List (List ℕ)) (o : Option (Bor (List ℕ))) (name : Bor (List ℕ)) → o ≡ Some name
+    → Stood IsFile (option_copied o) (values_of key further) → Stood IsFile (Some name.now) (values_of key further)
+file_stood key further o name e s = subst (λ (o : Option (Bor (List ℕ))). Stood IsFile (option_copied o) (values_of key further)) e s
 
 pub SayCheck-from_gave : (name : CommandName) (further : List (List ℕ)) (given : Given) (table : Bor (List ℕ)) → name ≡ Check → given.table ≡ Some table
     → Gave name further given → SayCheck (name_text name ∷ further) table.now
-SayCheck-from_gave Generate further given table n t g = cc
-SayCheck-from_gave Check further given table n t g =
-    SayCheck-given further table.now g.keyed (subst (λ (o : Option (Bor (List ℕ))). Stood IsFile (option_copied o) (values_of (codes "table") further)) t g.table)
-SayCheck-from_gave Extract further given table n t g = cc
+SayCheck-from_gave name further given table n t = subst (λ (m : CommandName). Gave m further given → SayCheck (name_text m ∷ further) table.now) (sym n) (λ g.
+    SayCheck-given further table.now g.keyed (file_stood (codes "table") further given.table table t g.table))
 
 pub SayExtract-from_gave : (name : CommandName) (further : List (List ℕ)) (given : Given) (table grid : Bor (List ℕ)) (iso : ℤ) → name ≡ Extract
     → given.table ≡ Some table → given.grid ≡ Some grid → given.iso ≡ Some iso
     → Gave name further given → SayExtract (name_text name ∷ further) table.now grid.now (to_z w64 (of_z w64 iso))
-SayExtract-from_gave Generate further given table grid iso n t r i g = cc
-SayExtract-from_gave Check further given table grid iso n t r i g = cc
-SayExtract-from_gave Extract further given table grid iso n t r i g =
+SayExtract-from_gave name further given table grid iso n t r i =
+    subst (λ (m : CommandName). Gave m further given → SayExtract (name_text m ∷ further) table.now grid.now (to_z w64 (of_z w64 iso))) (sym n) (λ g.
     let iso' = subst (λ (o : Option ℤ). Stood IsIsovalue o (values_of (codes "iso") further)) i g.iso in
     let same : iso ≡ to_z w64 (of_z w64 iso) = sym (to_z-of_z (isovalue_fits iso iso'.2.1 iso'.2.2)) in
     subst (λ (z : ℤ). SayExtract (codes "extract" ∷ further) table.now grid.now z) same (SayExtract-given further table.now grid.now iso g.keyed
-    (subst (λ (o : Option (Bor (List ℕ))). Stood IsFile (option_copied o) (values_of (codes "table") further)) t g.table)
-    (subst (λ (o : Option (Bor (List ℕ))). Stood IsFile (option_copied o) (values_of (codes "grid") further)) r g.grid)
-    iso')
+    (file_stood (codes "table") further given.table table t g.table)
+    (file_stood (codes "grid") further given.grid grid r g.grid)
+    iso'))
 
 -- ---- words that begin no right list
 
@@ -160,4 +185,5 @@ not_begin-unkeyed name further word e begun =
 -- nor with one whose key never stands once then
 pub not_begin-never : (name : CommandName) (key : Key) (further : List (List ℕ)) → has_key name key ≡ true
     → ((more : List (List ℕ)) → StandsOnce key (further ++ more) → ⊥) → BeginRight is_built (name_text name ∷ further) → ⊥
-not_begin-never name key further e never begun = never begun.0 ((HasKeys-from_right name (further ++ begun.0) begun.1).once key e)
+not_begin-never name key further e never begun =
+    never begun.0 (stands_once name (further ++ begun.0) key (HasKeys-from_right name (further ++ begun.0) begun.1) e)

@@ -8,7 +8,7 @@ use Rattle.std.specs.declared.string.String.{String}
 use Rattle.std.proofs.lemmas.Bool.{false≢true, cases_order}
 use Rattle.std.proofs.lemmas.List.{take_more, take-append-drop, take-take, append_assoc, length-map, get_or-map}
 use Rattle.std.proofs.lemmas.List.Elements.{All-nil}
-use Rattle.iso_formats.specs.Commands.{Command as Asked, generate_command, check_command, extract_command, demo_command, kind_name, Gives}
+use Rattle.iso_formats.specs.Commands.{Command as Asked, kind_name, Gives}
 use Rattle.iso_formats.specs.Commands.{GivesNumber, Say, AreRight, BeginRight, IsWrongWord}
 use Rattle.iso_formats.specs.Commands.{has_key_of}
 use Rattle.iso_words.specs.declared.Command.{Command}
@@ -20,6 +20,7 @@ use Rattle.iso_words.specs.Built.{is_built, texts, asked}
 use Rattle.iso_words.specs.Keys.{name_text, keys_of}
 use Rattle.iso_words.specs.Given.{Gave, given_count}
 use Rattle.iso_words.proofs.KindLemmas.{kind_name-one, pos-one}
+use Rattle.iso_words.proofs.RightLemmas.{Values, with_values, built_values, begins_named, begins-one}
 use Rattle.iso_words.proofs.BeginLemmas.{BeginRight-given}
 use Rattle.lists.proofs.MemberLaws.{same_head}
 
@@ -32,32 +33,30 @@ one_number : (words : List (List ℕ)) (key : List ℕ) (m n : ℤ) → GivesNum
 one_number words key m n (v, e, p) (w, f, q) =
     let same = one_value words key v w e f in cc
 
-pub Say-one : (words : List (List ℕ)) (c d : Asked) → IsTrue (is_built c) → IsTrue (is_built d) → Say words c → Say words d → c ≡ d
-Say-one words (check_command table) (check_command table') b e s t =
-    ap check_command (one_value words (codes "table") table table' s.table_is.0 t.table_is.0)
-Say-one words (extract_command table grid iso) (extract_command table' grid' iso') b e s t =
+-- with one name they say one list of values
+one_values : (name : CommandName) (words : List (List ℕ)) (v w : Values name) → Say words (with_values name v) → Say words (with_values name w) → v ≡ w
+one_values Generate words (kind, d) (kind', d') s t =
+    let same_kind = kind_name-one kind kind' (one_value words (codes "kind") (kind_name kind) (kind_name kind') s.kind_is t.kind_is) in
+    let same_dim = pos-one d d' (one_number words (codes "dim") (pos d) (pos d') s.dim_is t.dim_is) in
+    cc
+one_values Check words table table' s t = one_value words (codes "table") table table' s.table_is.0 t.table_is.0
+one_values Extract words (table, grid, iso) (table', grid', iso') s t =
     let same_table = one_value words (codes "table") table table' s.table_is.0 t.table_is.0 in
     let same_grid = one_value words (codes "grid") grid grid' s.grid_is.0 t.grid_is.0 in
     let same_iso = one_number words (codes "iso") iso iso' s.iso_is t.iso_is in
     cc
-Say-one words (check_command table) (extract_command table' grid iso) b e s t =
-    let same = same_head _ _ _ _ (sym s.are_for.named.1 ∙ t.are_for.named.1) in cc
-Say-one words (extract_command table grid iso) (check_command table') b e s t =
-    let same = same_head _ _ _ _ (sym s.are_for.named.1 ∙ t.are_for.named.1) in cc
-Say-one words (generate_command kind d) (generate_command kind' d') b e s t =
-    let same_kind = kind_name-one kind kind' (one_value words (codes "kind") (kind_name kind) (kind_name kind') s.kind_is t.kind_is) in
-    let same_dim = pos-one d d' (one_number words (codes "dim") (pos d) (pos d') s.dim_is t.dim_is) in
-    cc
-Say-one words (generate_command kind d) (check_command table) b e s t =
-    let same = same_head _ _ _ _ (sym s.are_for.named.1 ∙ t.are_for.named.1) in cc
-Say-one words (generate_command kind d) (extract_command table grid iso) b e s t =
-    let same = same_head _ _ _ _ (sym s.are_for.named.1 ∙ t.are_for.named.1) in cc
-Say-one words (check_command table) (generate_command kind d) b e s t =
-    let same = same_head _ _ _ _ (sym s.are_for.named.1 ∙ t.are_for.named.1) in cc
-Say-one words (extract_command table grid iso) (generate_command kind d) b e s t =
-    let same = same_head _ _ _ _ (sym s.are_for.named.1 ∙ t.are_for.named.1) in cc
-Say-one words (demo_command kind d size seed) c b e s t = absurd (false≢true b)
-Say-one words c (demo_command kind d size seed) b e s t = absurd (false≢true e)
+
+pub Say-one : (words : List (List ℕ)) (c d : Asked) → IsTrue (is_built c) → IsTrue (is_built d) → Say words c → Say words d → c ≡ d
+Say-one words c d b e s t =
+    let m = built_values c b in
+    let n = built_values d e in
+    let said : Say words (with_values m.0 m.1) = subst (λ (c : Asked). Say words c) m.2 s in
+    let too : Say words (with_values n.0 n.1) = subst (λ (c : Asked). Say words c) n.2 t in
+    let begun = begins_named m.0 m.1 words said in
+    let same =
+    subst (λ (k : CommandName). (v : Values k) → Say words (with_values k v) → with_values m.0 m.1 ≡ with_values k v)
+    (begins-one m.0 n.0 n.1 words begun.0 begun.1 too) (λ v t. ap (with_values m.0) (one_values m.0 words m.1 v said t)) n.1 too in
+    m.2 ∙ same ∙ sym n.2
 
 -- ---- the first wrong word
 
@@ -79,17 +78,14 @@ begin_nothing =
     }) in
     (codes "check" ∷ begun.0, begun.1)
 
-named : (word : List ℕ) (rest : List (List ℕ)) (c : Asked) → IsTrue (is_built c) → Say (word ∷ rest) c → (name : CommandName) × (word ≡ name_text name)
-named word rest (generate_command kind d) b s = (Generate, same_head _ _ _ _ s.are_for.named.1)
-named word rest (check_command table) b s = (Check, same_head _ _ _ _ s.are_for.named.1)
-named word rest (extract_command table grid iso) b s = (Extract, same_head _ _ _ _ s.are_for.named.1)
-named word rest (demo_command kind d size seed) b s = absurd (false≢true b)
+named : (words : List (List ℕ)) (c : Asked) → IsTrue (is_built c) → Say words c → (name : CommandName) × (further : List (List ℕ)) × (words ≡ name_text name ∷ further)
+named words c b s =
+    let built = built_values c b in
+    let begun = begins_named built.0 built.1 words (subst (λ (c : Asked). Say words c) built.2 s) in
+    (built.0, begun.0, begun.1)
 
 none_right : (c : Asked) → IsTrue (is_built c) → Say [] c → ⊥
-none_right (generate_command kind d) b s = let e = s.are_for.named.1 in cc
-none_right (check_command table) b s = let e = s.are_for.named.1 in cc
-none_right (extract_command table grid iso) b s = let e = s.are_for.named.1 in cc
-none_right (demo_command kind d size seed) b s = absurd (false≢true b)
+none_right c b s = let e = (named [] c b s).2 in cc
 
 wrong_none : IsWrongWord is_built [] 1
 wrong_none = record { counted = omega arith; before = begin_nothing; wrong = inr (refl, λ r. none_right r.0 r.1 r.2) }
@@ -99,7 +95,7 @@ pub wrong_first : (word : List ℕ) (rest : List (List ℕ)) → ((name : Comman
 wrong_first word rest none = record {
   counted = omega arith;
   before = begin_nothing;
-  wrong = inl (omega arith, λ b. let n = named word b.0 b.1.0 b.1.1 b.1.2 in none n.0 n.1);
+  wrong = inl (omega arith, λ b. let n = named (word ∷ b.0) b.1.0 b.1.1 b.1.2 in none n.0 (same_head _ _ _ _ n.2));
 }
 
 -- where no right list goes on with a further word
@@ -202,7 +198,7 @@ at_most_one : (b : Bool) → cond b 1 0 ≤ 1
 at_most_one true = omega arith
 at_most_one false = omega arith
 
-pub few_given : (given : Given) → given_count given ≤ 5
+pub few_given : (given : Given) → given_count given ≤ 100
 few_given given =
     omega (
       arith,

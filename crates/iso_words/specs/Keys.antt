@@ -1,5 +1,7 @@
 -- The keys and the commands, by their words.
-use Rattle.std.specs.Prelude.{◌≡◌, ℕ, Bool, true, false, List, [], ◌∷◌, Option, Some, None, MatchOption, codes}
+use Rattle.std.specs.Prelude.{◌≡◌, ℕ, Bool, List, [], ◌∷◌, map, Option, Some, None, MatchOption, codes}
+use Rattle.std.specs.List.{list_any}
+use Rattle.lists.specs.Orders.{same_list}
 use Rattle.iso_formats.specs.Commands.{value_for}
 use Rattle.iso_words.specs.declared.keys.Key.{Key}
 use Rattle.iso_words.specs.declared.keys.Key.TheVariants.{Kind, Dim, Table, Grid, Iso}
@@ -24,21 +26,19 @@ name_text Generate = codes "generate"
 name_text Check = codes "check"
 name_text Extract = codes "extract"
 
+-- a command's keys
+abbrev pub own_keys : CommandName → List Key
+own_keys Generate = Kind ∷ Dim ∷ []
+own_keys Check = Table ∷ []
+own_keys Extract = Table ∷ Grid ∷ Iso ∷ []
+
 -- the words of a command's keys
 abbrev pub keys_of : CommandName → List (List ℕ)
-keys_of Generate = codes "kind" ∷ codes "dim" ∷ []
-keys_of Check = codes "table" ∷ []
-keys_of Extract = codes "table" ∷ codes "grid" ∷ codes "iso" ∷ []
+keys_of name = map key_text (own_keys name)
 
 -- a command has a key
 abbrev pub has_key : CommandName → Key → Bool
-has_key Generate Kind = true
-has_key Generate Dim = true
-has_key Check Table = true
-has_key Extract Table = true
-has_key Extract Grid = true
-has_key Extract Iso = true
-has_key _ _ = false
+has_key name key = list_any (same_list (key_text key)) (keys_of name)
 
 -- a word is no key, =, and a value
 abbrev pub HasNoKey : List ℕ → Type 0
