@@ -132,9 +132,9 @@ begin_generate further given g =
     let kind = standing given.kind Cube in
     let d = standing given.dim 3 in
     let said = SayGenerate-given (further ++ fills rows) kind d (keyed_on Generate rows further refl g.keyed)
-    (after_fills IsKind given.kind (codes "kind") rows further (codes "cube") Cube refl (append-nil _) g.kind)
-    (after_fills IsDimension given.dim (codes "dim") rows further (codes "3") 3 a_dimension (append-nil _) g.dim)
-    (standing_fit given.kind given.dim (values_of (codes "dim") further) g.dim g.fits) in
+    (after_fills IsKind given.kind (codes "kind") rows further (codes "cube") Cube refl (append-nil _) (g.stood Kind))
+    (after_fills IsDimension given.dim (codes "dim") rows further (codes "3") 3 a_dimension (append-nil _) (g.stood Dim))
+    (standing_fit given.kind given.dim (values_of (codes "dim") further) (g.stood Dim) g.fits) in
     (fills rows, (generate_command kind d, refl, said))
 
 begin_check : (further : List (List ℕ)) (given : Given) → Gave Check further given → BeginRight is_built (codes "check" ∷ further)
@@ -142,7 +142,7 @@ begin_check further given g =
     let table = option_copied given.table in
     let rows = (Table, is_some table, codes "a") ∷ [] in
     let said = SayCheck-given (further ++ fills rows) (standing table (codes "a")) (keyed_on Check rows further refl g.keyed)
-    (after_fills IsFile table (codes "table") rows further (codes "a") (codes "a") a_file (append-nil _) g.table) in
+    (after_fills IsFile table (codes "table") rows further (codes "a") (codes "a") a_file (append-nil _) (g.stood Table)) in
     (fills rows, (check_command (standing table (codes "a")), refl, said))
 
 begin_extract : (further : List (List ℕ)) (given : Given) → Gave Extract further given → BeginRight is_built (codes "extract" ∷ further)
@@ -152,9 +152,9 @@ begin_extract further given g =
     let rows = (Table, is_some table, codes "a") ∷ (Grid, is_some grid, codes "a") ∷ (Iso, is_some given.iso, codes "0") ∷ [] in
     let said = SayExtract-given (further ++ fills rows) (standing table (codes "a")) (standing grid (codes "a")) (standing given.iso (pos 0))
     (keyed_on Extract rows further refl g.keyed)
-    (after_fills IsFile table (codes "table") rows further (codes "a") (codes "a") a_file (append-nil _) g.table)
-    (after_fills IsFile grid (codes "grid") rows further (codes "a") (codes "a") a_file (append-nil _) g.grid)
-    (after_fills IsIsovalue given.iso (codes "iso") rows further (codes "0") (pos 0) an_isovalue (append-nil _) g.iso) in
+    (after_fills IsFile table (codes "table") rows further (codes "a") (codes "a") a_file (append-nil _) (g.stood Table))
+    (after_fills IsFile grid (codes "grid") rows further (codes "a") (codes "a") a_file (append-nil _) (g.stood Grid))
+    (after_fills IsIsovalue given.iso (codes "iso") rows further (codes "0") (pos 0) an_isovalue (append-nil _) (g.stood Iso)) in
     (fills rows, (extract_command (standing table (codes "a")) (standing grid (codes "a")) (standing given.iso (pos 0)), refl, said))
 
 -- some right list begins with the name of a command and words that gave right values

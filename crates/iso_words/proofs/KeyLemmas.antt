@@ -78,7 +78,7 @@ one_word word_of all found x y e = same_some (sym (found x) ∙ ap (λ (w : List
     same_some : Some x ≡ Some y → x ≡ y
     same_some e = cc
 
-abbrev every_key : List Key
+abbrev pub every_key : List Key
 every_key =
     Kind
     ∷ Dim

@@ -4,5 +4,7 @@ pub mod KindLemmas
 pub mod RightLemmas
 pub mod NumberLemmas
 pub mod TakeLemmas
+pub mod TakenLemmas
+pub mod MissingLemmas
 pub mod BeginLemmas
 pub mod WrongLemmas

@@ -144,8 +144,8 @@ pub SayGenerate-from_gave : (name : CommandName) (further : List (List ℕ)) (gi
     → given.kind ≡ Some kind → given.dim ≡ Some d → Gave name further given → SayGenerate (name_text name ∷ further) kind d
 SayGenerate-from_gave name further given kind d n k i = subst (λ (m : CommandName). Gave m further given → SayGenerate (name_text m ∷ further) kind d) (sym n) (λ g.
     SayGenerate-given further kind d g.keyed
-    (subst (λ (o : Option CellKind). Stood IsKind o (values_of (codes "kind") further)) k g.kind)
-    (subst (λ (o : Option ℕ). Stood IsDimension o (values_of (codes "dim") further)) i g.dim)
+    (subst (λ (o : Option CellKind). Stood IsKind o (values_of (codes "kind") further)) k (g.stood Kind))
+    (subst (λ (o : Option ℕ). Stood IsDimension o (values_of (codes "dim") further)) i (g.stood Dim))
     (subst (λ (o : Option ℕ). Fit (Some kind) o) i (subst (λ (o : Option CellKind). Fit o given.dim) k g.fits)))
 
 file_stood : (key : List ℕ) (further : List (List ℕ)) (o : Option (Bor (List ℕ))) (name : Bor (List ℕ)) → o ≡ Some name
@@ -155,18 +155,18 @@ file_stood key further o name e s = subst (λ (o : Option (Bor (List ℕ))). Sto
 pub SayCheck-from_gave : (name : CommandName) (further : List (List ℕ)) (given : Given) (table : Bor (List ℕ)) → name ≡ Check → given.table ≡ Some table
     → Gave name further given → SayCheck (name_text name ∷ further) table.now
 SayCheck-from_gave name further given table n t = subst (λ (m : CommandName). Gave m further given → SayCheck (name_text m ∷ further) table.now) (sym n) (λ g.
-    SayCheck-given further table.now g.keyed (file_stood (codes "table") further given.table table t g.table))
+    SayCheck-given further table.now g.keyed (file_stood (codes "table") further given.table table t (g.stood Table)))
 
 pub SayExtract-from_gave : (name : CommandName) (further : List (List ℕ)) (given : Given) (table grid : Bor (List ℕ)) (iso : ℤ) → name ≡ Extract
     → given.table ≡ Some table → given.grid ≡ Some grid → given.iso ≡ Some iso
     → Gave name further given → SayExtract (name_text name ∷ further) table.now grid.now (to_z w64 (of_z w64 iso))
 SayExtract-from_gave name further given table grid iso n t r i =
     subst (λ (m : CommandName). Gave m further given → SayExtract (name_text m ∷ further) table.now grid.now (to_z w64 (of_z w64 iso))) (sym n) (λ g.
-    let iso' = subst (λ (o : Option ℤ). Stood IsIsovalue o (values_of (codes "iso") further)) i g.iso in
+    let iso' = subst (λ (o : Option ℤ). Stood IsIsovalue o (values_of (codes "iso") further)) i (g.stood Iso) in
     let same : iso ≡ to_z w64 (of_z w64 iso) = sym (to_z-of_z (isovalue_fits iso iso'.2.1 iso'.2.2)) in
     subst (λ (z : ℤ). SayExtract (codes "extract" ∷ further) table.now grid.now z) same (SayExtract-given further table.now grid.now iso g.keyed
-    (file_stood (codes "table") further given.table table t g.table)
-    (file_stood (codes "grid") further given.grid grid r g.grid)
+    (file_stood (codes "table") further given.table table t (g.stood Table))
+    (file_stood (codes "grid") further given.grid grid r (g.stood Grid))
     iso'))
 
 -- ---- words that begin no right list

@@ -18,7 +18,7 @@ use Rattle.iso_words.proofs.RightLemmas.{StandsOnce, not_begin-never}
 
 -- ---- file names
 
-copied : (o : Option (Bor (List ℕ))) → is_some (option_copied o) ≡ is_some o
+pub copied : (o : Option (Bor (List ℕ))) → is_some (option_copied o) ≡ is_some o
 copied None = refl
 copied (Some x) = refl
 

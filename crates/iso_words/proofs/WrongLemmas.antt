@@ -1,26 +1,25 @@
 -- The first wrong word.
 use Rattle.std.proofs.Common.{◌≡◌, ◌≢◌, ℕ, ◌+◌, ◌-◌, ◌<◌, ◌≤◌, Bool, true, false, cond, List, [], ◌∷◌, ◌++◌, length, take, drop, get_or, suc}
-use Rattle.std.proofs.Common.{take_all, ◌⊎◌, None, refl, sym, ◌∙◌, ap, subst, arith, inl, inr}
+use Rattle.std.proofs.Common.{take_all, ◌⊎◌, refl, sym, ◌∙◌, ap, subst, arith, inl, inr}
 use Rattle.std.specs.Prelude.{ℤ, pos, codes, IsTrue}
 use Rattle.std.specs.Option.{is_some}
 use Rattle.std.specs.String.{string_bytes}
 use Rattle.std.specs.declared.string.String.{String}
-use Rattle.std.proofs.lemmas.Bool.{false≢true, cases_order}
+use Rattle.std.proofs.lemmas.Bool.{cases_order}
 use Rattle.std.proofs.lemmas.List.{take_more, take-append-drop, take-take, append_assoc, length-map, get_or-map}
-use Rattle.std.proofs.lemmas.List.Elements.{All-nil}
 use Rattle.iso_formats.specs.Commands.{Command as Asked, kind_name, Gives}
 use Rattle.iso_formats.specs.Commands.{GivesNumber, Say, AreRight, BeginRight, IsWrongWord}
-use Rattle.iso_formats.specs.Commands.{has_key_of}
 use Rattle.iso_words.specs.declared.Command.{Command}
 use Rattle.iso_words.specs.declared.Command.TheVariants.{Generate as generate, Check as check, Extract as extract}
 use Rattle.iso_words.specs.declared.keys.CommandName.{CommandName}
 use Rattle.iso_words.specs.declared.keys.CommandName.TheVariants.{Generate, Check, Extract}
 use Rattle.iso_words.specs.declared.given.Given.{Given}
 use Rattle.iso_words.specs.Built.{is_built, texts, asked}
-use Rattle.iso_words.specs.Keys.{name_text, keys_of}
+use Rattle.iso_words.specs.Keys.{name_text}
 use Rattle.iso_words.specs.Given.{Gave, given_count}
 use Rattle.iso_words.proofs.KindLemmas.{kind_name-one, pos-one}
 use Rattle.iso_words.proofs.RightLemmas.{Values, with_values, built_values, begins_named, begins-one}
+use Rattle.iso_words.proofs.TakenLemmas.{nothing, Gave-nothing}
 use Rattle.iso_words.proofs.BeginLemmas.{BeginRight-given}
 use Rattle.lists.proofs.MemberLaws.{same_head}
 
@@ -60,22 +59,9 @@ Say-one words c d b e s t =
 
 -- ---- the first wrong word
 
-abbrev nothing : Given
-nothing = record { kind = None; dim = None; table = None; grid = None; iso = None }
-
 begin_nothing : BeginRight is_built []
 begin_nothing =
-    let begun =
-    BeginRight-given Check [] nothing
-    (record {
-      keyed = All-nil (λ w. has_key_of (keys_of Check) w ≡ true);
-      kind = refl;
-      dim = refl;
-      fits = tt;
-      table = refl;
-      grid = refl;
-      iso = refl;
-    }) in
+    let begun = BeginRight-given Check [] nothing (Gave-nothing Check) in
     (codes "check" ∷ begun.0, begun.1)
 
 named : (words : List (List ℕ)) (c : Asked) → IsTrue (is_built c) → Say words c → (name : CommandName) × (further : List (List ℕ)) × (words ≡ name_text name ∷ further)

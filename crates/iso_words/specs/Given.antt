@@ -1,15 +1,17 @@
 -- What the words of a command gave so far.
-use Rattle.std.specs.Prelude.{◌≡◌, ◌≢◌, ⊤, ℕ, ◌≤◌, ℤ, pos, neg_ℤ, ◌≤ℤ◌, List, [], ◌∷◌, filter_map, Option, Some, None, codes, ◌+◌, if◌then◌else◌, is_some}
-use Rattle.std.specs.Prelude.{Bool, ◌++◌, not, ◌&&◌, ◌||◌, ◌==◌, length, slice_index}
-use Rattle.std.specs.List.{AllPass}
+use Rattle.std.specs.Prelude.{◌≡◌, ◌≢◌, ⊤, ℕ, ◌≤◌, ℤ, pos, neg_ℤ, ◌≤ℤ◌, List, [], ◌∷◌, filter_map, Option, Some, None, ◌+◌, if◌then◌else◌, is_some}
+use Rattle.std.specs.Prelude.{Bool, ◌++◌, not, ◌&&◌, ◌||◌, ◌==◌, length, slice_index, IsTrue}
+use Rattle.std.specs.List.{AllPass, list_any}
 use Rattle.std.specs.Option.{option_copied}
 use Rattle.std.specs.Str.{all_ascii_digits}
-use Rattle.iso_model.specs.declared.Kind.{Kind}
+use Rattle.iso_model.specs.declared.Kind.{Kind as CellKind}
 use Rattle.iso_model.specs.Cells.{HasDimension}
-use Rattle.iso_formats.specs.Commands.{AreRight, BeginRight, Say, value_for, has_key_of, kind_name, IsNumber, iso_limit}
+use Rattle.iso_formats.specs.Commands.{BeginRight, Say, value_for, has_key_of, kind_name, IsNumber, iso_limit}
 use Rattle.iso_words.specs.Built.{asked, is_built}
 use Rattle.iso_words.specs.declared.Command.{Command}
-use Rattle.iso_words.specs.Keys.{keys_of, name_text}
+use Rattle.iso_words.specs.Keys.{key_text, own_keys, keys_of, name_text}
+use Rattle.iso_words.specs.declared.keys.Key.{Key}
+use Rattle.iso_words.specs.declared.keys.Key.TheVariants.{Kind, Dim, Table, Grid, Iso}
 use Rattle.iso_words.specs.declared.keys.CommandName.{CommandName}
 use Rattle.iso_words.specs.declared.given.Given.{Given}
 
@@ -19,7 +21,7 @@ are_digits_alone digits =
     not (length digits == 0) && all_ascii_digits digits && (length digits == 1 || not (slice_index digits 0 == 48))
 
 -- the text names the kind
-abbrev pub IsKind : List ℕ → Kind → Type 0
+abbrev pub IsKind : List ℕ → CellKind → Type 0
 IsKind text kind = text ≡ kind_name kind
 
 -- the text of a dimension, which some kind has
@@ -27,17 +29,17 @@ abbrev pub IsDimension : List ℕ → ℕ → Type 0
 IsDimension text d = IsNumber text (pos d) × (2 ≤ d) × (d ≤ 4)
 
 -- a kind and a dimension that were given go together
-abbrev pub Fit : Option Kind → Option ℕ → Type 0
+abbrev pub Fit : Option CellKind → Option ℕ → Type 0
 Fit None dim = ⊤
 Fit (Some kind) None = ⊤
 Fit (Some kind) (Some d) = HasDimension kind d
 
 -- the text names a kind, which has the dimension that was given
-abbrev pub IsKindBeside : Option ℕ → List ℕ → Kind → Type 0
+abbrev pub IsKindBeside : Option ℕ → List ℕ → CellKind → Type 0
 IsKindBeside dim text kind = IsKind text kind × Fit (Some kind) dim
 
 -- the text of a dimension, which the kind has that was given
-abbrev pub IsDimensionBeside : Option Kind → List ℕ → ℕ → Type 0
+abbrev pub IsDimensionBeside : Option CellKind → List ℕ → ℕ → Type 0
 IsDimensionBeside kind text d = IsDimension text d × Fit kind (Some d)
 
 -- a file name has at least one character
@@ -57,15 +59,19 @@ abbrev pub Stood : {V : Type 0} → (List ℕ → V → Type 0) → Option V →
 Stood P None values = values ≡ []
 Stood P (Some v) values = (text : List ℕ) × (values ≡ text ∷ []) × P text v
 
--- the words behind the command's name have keys of the command, none twice, and give these values
+-- a key did not stand yet, or it stood once, with a text of the value that was given
+abbrev pub StoodAt : Key → Given → List (List ℕ) → Type 0
+StoodAt Kind given values = Stood IsKind given.kind values
+StoodAt Dim given values = Stood IsDimension given.dim values
+StoodAt Table given values = Stood IsFile (option_copied given.table) values
+StoodAt Grid given values = Stood IsFile (option_copied given.grid) values
+StoodAt Iso given values = Stood IsIsovalue given.iso values
+
+-- the words behind the command's name have keys of the command, none twice, and give these values, which go together
 pub record Gave (name : CommandName) (further : List (List ℕ)) (given : Given) : Type 0 where
   pub keyed : AllPass (has_key_of (keys_of name)) further
-  pub kind : Stood IsKind given.kind (values_of (codes "kind") further)
-  pub dim : Stood IsDimension given.dim (values_of (codes "dim") further)
+  pub stood : (key : Key) → StoodAt key given (values_of (key_text key) further)
   pub fits : Fit given.kind given.dim
-  pub table : Stood IsFile (option_copied given.table) (values_of (codes "table") further)
-  pub grid : Stood IsFile (option_copied given.grid) (values_of (codes "grid") further)
-  pub iso : Stood IsIsovalue given.iso (values_of (codes "iso") further)
 
 -- this holds of each list of words behind the command's name that gives these values
 abbrev pub EachGiving : CommandName → Given → (List (List ℕ) → Type 0) → Type 0
@@ -79,16 +85,27 @@ EachLonger name given word P = EachGiving name given (λ further. P (further ++ 
 abbrev pub SayNamed : CommandName → List (List ℕ) → Command → Type 0
 SayNamed name further command = Say (name_text name ∷ further) (asked command)
 
--- the command's name and these words are no right list
-abbrev pub AreWrong : CommandName → List (List ℕ) → Type 0
-AreWrong name further = ¬ AreRight is_built (name_text name ∷ further)
-
 -- no right list begins with the command's name and these words
 abbrev pub BeginsNone : CommandName → List (List ℕ) → Type 0
 BeginsNone name further = ¬ BeginRight is_built (name_text name ∷ further)
 
+-- a value of the key was given
+abbrev pub is_given : Key → Given → Bool
+is_given Kind given = is_some given.kind
+is_given Dim given = is_some given.dim
+is_given Table given = is_some given.table
+is_given Grid given = is_some given.grid
+is_given Iso given = is_some given.iso
+
+-- a key of the command is missing
+abbrev pub Lacks : CommandName → Given → Type 0
+Lacks name given = IsTrue (list_any (λ key. not (is_given key given)) (own_keys name))
+
 -- how many values were given
 abbrev pub given_count : Given → ℕ
 given_count given =
-    (if is_some given.kind then 1 else 0) + (if is_some given.dim then 1 else 0) + (if is_some given.table then 1 else 0)
-    + (if is_some given.grid then 1 else 0) + (if is_some given.iso then 1 else 0)
+    (if is_some given.kind then 1 else 0)
+    + (if is_some given.dim then 1 else 0)
+    + (if is_some given.table then 1 else 0)
+    + (if is_some given.grid then 1 else 0)
+    + (if is_some given.iso then 1 else 0)

@@ -5,6 +5,7 @@ use Rattle.iso_words.specs.Keys.{name_text}
 use Rattle.iso_words.specs.Given.{Gave}
 use Rattle.iso_words.proofs.WrongLemmas.{Say-one, asked_built, few_given, IsWrongWord-one, length-texts, never_said, texts-first, texts-more}
 use Rattle.iso_words.proofs.WrongLemmas.{texts-end, wrong_empty, wrong_first, wrong_further, wrong_early}
+use Rattle.iso_words.proofs.MissingLemmas.{Lacks-wrong}
 use Rattle.iso_words.proofs.parse.Goals as goal
 
 pub returns-in_default-clause-place : goal.returns-in_default-clause-place
@@ -83,7 +84,7 @@ returns-in-None-clause-place c =
     let gave = subst (λ (ws : List (List ℕ)). Gave name ws c.loop-i.given) (texts-end further c.loop-i.i (omega arith)) c.loop-i.invariant.gave in
     subst (λ (ws : List (List ℕ)). IsWrongWord is_built ws (length further + 2))
     (sym (texts-first c.args.words.now further c.in-Some.first.now name c.in-Some.ensures.cases.0 (sym c.as_str.ensures.value ∙ c.in-Some-named.ensures)))
-    (wrong_early name further c.loop-i.given gave (c.in-None.ensures.early (texts further) gave))
+    (wrong_early name further c.loop-i.given gave (Lacks-wrong name (texts further) c.loop-i.given gave c.in-None.ensures.early))
 
 pub returns-in-None-clause-exact : goal.returns-in-None-clause-exact
 returns-in-None-clause-exact c = never_said (texts c.args.words.now) (length c.in-Some.further.now + 2) (returns-in-None-clause-place c)

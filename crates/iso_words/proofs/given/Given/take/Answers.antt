@@ -1,15 +1,13 @@
-use Rattle.std.proofs.Common.{◌≡◌, Some, true, refl, sym, ◌∙◌, subst}
+use Rattle.std.proofs.Common.{◌≡◌, true, refl, sym, ◌∙◌, subst}
 use Rattle.std.specs.Prelude.{codes}
-use Rattle.std.specs.Option.{option_copied}
 use Rattle.std.proofs.lemmas.Bool.{OnTrue_at, OnTrue_from, OnFalse_from}
-use Rattle.std.proofs.lemmas.List.Elements.{All-push}
-use Rattle.iso_formats.specs.Commands.{value_for, has_key_of}
 use Rattle.iso_words.specs.declared.keys.Key.{Key}
-use Rattle.iso_words.specs.declared.keys.Key.TheVariants.{Table, Grid}
-use Rattle.iso_words.specs.Keys.{key_text, keys_of, has_key}
-use Rattle.iso_words.specs.Given.{IsKind, IsDimension, IsFile, IsIsovalue}
-use Rattle.iso_words.proofs.KeyLemmas.{value_for-other, has_key_of-key, has_key_of-no_key}
-use Rattle.iso_words.proofs.StoodLemmas.{first_stands, Stood-other}
+use Rattle.iso_words.specs.declared.keys.Key.TheVariants.{Kind, Dim, Table, Grid, Iso}
+use Rattle.iso_words.specs.Keys.{has_key, HasValue}
+use Rattle.iso_words.specs.Given.{IsIsovalue}
+use Rattle.iso_words.proofs.KeyLemmas.{has_key_of-key, has_key_of-no_key}
+use Rattle.iso_words.proofs.StoodLemmas.{first_stands}
+use Rattle.iso_words.proofs.TakenLemmas.{Gave-taken}
 use Rattle.iso_words.proofs.RightLemmas.{not_begin-unkeyed}
 use Rattle.iso_words.proofs.TakeLemmas.{first_kind, first_dimension, never_kind, never_dimension, first_file, never_file, never_isovalue}
 use Rattle.iso_words.proofs.given.Given.take.Goals as goal
@@ -25,116 +23,85 @@ returns-then-not-has-clause-refused c = λ further g.
 
 pub returns-in-Kind-clause-taken : goal.returns-in-Kind-clause-taken
 returns-in-Kind-clause-taken c = λ further g. OnTrue_from c.put.result _ (λ t.
-    let e = subst (λ (k : Key). value_for (key_text k) c.args.word.now ≡ Some c.in-Some.value.now) c.in-Kind.is c.in-Some.ensures in
+    let e = subst (λ (k : Key). HasValue c.args.word.now k c.in-Some.value.now) c.in-Kind.is c.in-Some.ensures in
+    let has = subst (λ (k : Key). true ≡ has_key c.args.name k) c.in-Kind.is c.if-not-has.ensures in
     let first =
-    first_kind further c.args.word.now c.in-Some.value.now c.args.self.now.kind c.kind_beside.result c.args.self.now.dim e g.kind g.fits
+    first_kind further c.args.word.now c.in-Some.value.now c.args.self.now.kind c.kind_beside.result c.args.self.now.dim e (g.stood Kind) g.fits
     c.kind_beside.ensures (sym c.put.ensures.first ∙ t) in
-    record {
-      keyed =
-          All-push (λ w. has_key_of (keys_of c.args.name) w ≡ true) further c.args.word.now g.keyed
-          (has_key_of-key c.args.name c.in-Some.key c.args.word.now c.in-Some.value.now c.in-Some.ensures ∙ sym c.if-not-has.ensures);
-      kind = rw (OnTrue_at t c.put.ensures.value) first.0;
-      dim = Stood-other IsDimension c.args.self.now.dim (codes "dim") further c.args.word.now (value_for-other (codes "kind") (codes "dim") c.args.word.now c.in-Some.value.now e refl) g.dim;
-      fits = rw (OnTrue_at t c.put.ensures.value) first.1;
-      table = Stood-other IsFile (option_copied c.args.self.now.table) (codes "table") further c.args.word.now (value_for-other (codes "kind") (codes "table") c.args.word.now c.in-Some.value.now e refl) g.table;
-      grid = Stood-other IsFile (option_copied c.args.self.now.grid) (codes "grid") further c.args.word.now (value_for-other (codes "kind") (codes "grid") c.args.word.now c.in-Some.value.now e refl) g.grid;
-      iso = Stood-other IsIsovalue c.args.self.now.iso (codes "iso") further c.args.word.now (value_for-other (codes "kind") (codes "iso") c.args.word.now c.in-Some.value.now e refl) g.iso;
-    })
+    Gave-taken c.args.name Kind c.args.self.now _ further c.args.word.now c.in-Some.value.now (sym has) e refl
+    (rw (OnTrue_at t c.put.ensures.value) first.0) (rw (OnTrue_at t c.put.ensures.value) first.1) g)
 
 pub returns-in-Kind-clause-refused : goal.returns-in-Kind-clause-refused
 returns-in-Kind-clause-refused c = λ further g. OnFalse_from c.put.result _ (λ t.
-    let e = subst (λ (k : Key). value_for (key_text k) c.args.word.now ≡ Some c.in-Some.value.now) c.in-Kind.is c.in-Some.ensures in
+    let e = subst (λ (k : Key). HasValue c.args.word.now k c.in-Some.value.now) c.in-Kind.is c.in-Some.ensures in
     let has = subst (λ (k : Key). true ≡ has_key c.args.name k) c.in-Kind.is c.if-not-has.ensures in
     never_kind c.args.name further c.args.word.now c.in-Some.value.now c.args.self.now.kind c.kind_beside.result c.args.self.now.dim (sym has) e
-    g.kind g.dim g.fits c.kind_beside.ensures (sym c.put.ensures.first ∙ t))
+    (g.stood Kind) (g.stood Dim) g.fits c.kind_beside.ensures (sym c.put.ensures.first ∙ t))
 
 pub returns-in-Dim-clause-taken : goal.returns-in-Dim-clause-taken
 returns-in-Dim-clause-taken c = λ further g. OnTrue_from c.put-in-Dim.result _ (λ t.
-    let e = subst (λ (k : Key). value_for (key_text k) c.args.word.now ≡ Some c.in-Some.value.now) c.in-Dim.is c.in-Some.ensures in
+    let e = subst (λ (k : Key). HasValue c.args.word.now k c.in-Some.value.now) c.in-Dim.is c.in-Some.ensures in
+    let has = subst (λ (k : Key). true ≡ has_key c.args.name k) c.in-Dim.is c.if-not-has.ensures in
     let first =
-    first_dimension further c.args.word.now c.in-Some.value.now c.args.self.now.dim c.dimension_beside.result c.args.self.now.kind e g.dim g.fits
+    first_dimension further c.args.word.now c.in-Some.value.now c.args.self.now.dim c.dimension_beside.result c.args.self.now.kind e (g.stood Dim) g.fits
     c.dimension_beside.ensures (sym c.put-in-Dim.ensures.first ∙ t) in
-    record {
-      keyed =
-          All-push (λ w. has_key_of (keys_of c.args.name) w ≡ true) further c.args.word.now g.keyed
-          (has_key_of-key c.args.name c.in-Some.key c.args.word.now c.in-Some.value.now c.in-Some.ensures ∙ sym c.if-not-has.ensures);
-      kind = Stood-other IsKind c.args.self.now.kind (codes "kind") further c.args.word.now (value_for-other (codes "dim") (codes "kind") c.args.word.now c.in-Some.value.now e refl) g.kind;
-      dim = rw (OnTrue_at t c.put-in-Dim.ensures.value) first.0;
-      fits = rw (OnTrue_at t c.put-in-Dim.ensures.value) first.1;
-      table = Stood-other IsFile (option_copied c.args.self.now.table) (codes "table") further c.args.word.now (value_for-other (codes "dim") (codes "table") c.args.word.now c.in-Some.value.now e refl) g.table;
-      grid = Stood-other IsFile (option_copied c.args.self.now.grid) (codes "grid") further c.args.word.now (value_for-other (codes "dim") (codes "grid") c.args.word.now c.in-Some.value.now e refl) g.grid;
-      iso = Stood-other IsIsovalue c.args.self.now.iso (codes "iso") further c.args.word.now (value_for-other (codes "dim") (codes "iso") c.args.word.now c.in-Some.value.now e refl) g.iso;
-    })
+    Gave-taken c.args.name Dim c.args.self.now _ further c.args.word.now c.in-Some.value.now (sym has) e refl
+    (rw (OnTrue_at t c.put-in-Dim.ensures.value) first.0) (rw (OnTrue_at t c.put-in-Dim.ensures.value) first.1) g)
 
 pub returns-in-Dim-clause-refused : goal.returns-in-Dim-clause-refused
 returns-in-Dim-clause-refused c = λ further g. OnFalse_from c.put-in-Dim.result _ (λ t.
-    let e = subst (λ (k : Key). value_for (key_text k) c.args.word.now ≡ Some c.in-Some.value.now) c.in-Dim.is c.in-Some.ensures in
+    let e = subst (λ (k : Key). HasValue c.args.word.now k c.in-Some.value.now) c.in-Dim.is c.in-Some.ensures in
     let has = subst (λ (k : Key). true ≡ has_key c.args.name k) c.in-Dim.is c.if-not-has.ensures in
     never_dimension c.args.name further c.args.word.now c.in-Some.value.now c.args.self.now.dim c.dimension_beside.result c.args.self.now.kind
-    (sym has) e g.dim g.kind g.fits c.dimension_beside.ensures (sym c.put-in-Dim.ensures.first ∙ t))
+    (sym has) e (g.stood Dim) (g.stood Kind) g.fits c.dimension_beside.ensures (sym c.put-in-Dim.ensures.first ∙ t))
 
 pub returns-in-Table-clause-taken : goal.returns-in-Table-clause-taken
 returns-in-Table-clause-taken c = λ further g. OnTrue_from c.put-in-Table.result _ (λ t.
-    let e = subst (λ (k : Key). value_for (key_text k) c.args.word.now ≡ Some c.in-Some.value.now) c.in-Table.is c.in-Some.ensures in
-    record {
-      keyed =
-          All-push (λ w. has_key_of (keys_of c.args.name) w ≡ true) further c.args.word.now g.keyed
-          (has_key_of-key c.args.name c.in-Some.key c.args.word.now c.in-Some.value.now c.in-Some.ensures ∙ sym c.if-not-has.ensures);
-      kind = Stood-other IsKind c.args.self.now.kind (codes "kind") further c.args.word.now (value_for-other (codes "table") (codes "kind") c.args.word.now c.in-Some.value.now e refl) g.kind;
-      dim = Stood-other IsDimension c.args.self.now.dim (codes "dim") further c.args.word.now (value_for-other (codes "table") (codes "dim") c.args.word.now c.in-Some.value.now e refl) g.dim;
-      fits = g.fits;
-      table = rw (OnTrue_at t c.put-in-Table.ensures.value) (first_file (codes "table") further c.args.word.now c.in-Some.value.now c.args.self.now.table c.file_name.result e g.table c.file_name.ensures (sym c.put-in-Table.ensures.first ∙ t));
-      grid = Stood-other IsFile (option_copied c.args.self.now.grid) (codes "grid") further c.args.word.now (value_for-other (codes "table") (codes "grid") c.args.word.now c.in-Some.value.now e refl) g.grid;
-      iso = Stood-other IsIsovalue c.args.self.now.iso (codes "iso") further c.args.word.now (value_for-other (codes "table") (codes "iso") c.args.word.now c.in-Some.value.now e refl) g.iso;
-    })
+    let e = subst (λ (k : Key). HasValue c.args.word.now k c.in-Some.value.now) c.in-Table.is c.in-Some.ensures in
+    let has = subst (λ (k : Key). true ≡ has_key c.args.name k) c.in-Table.is c.if-not-has.ensures in
+    let first =
+    first_file (codes "table") further c.args.word.now c.in-Some.value.now c.args.self.now.table c.file_name.result e (g.stood Table)
+    c.file_name.ensures (sym c.put-in-Table.ensures.first ∙ t) in
+    Gave-taken c.args.name Table c.args.self.now _ further c.args.word.now c.in-Some.value.now (sym has) e refl
+    (rw (OnTrue_at t c.put-in-Table.ensures.value) first) g.fits g)
 
 pub returns-in-Table-clause-refused : goal.returns-in-Table-clause-refused
 returns-in-Table-clause-refused c = λ further g. OnFalse_from c.put-in-Table.result _ (λ t.
-    let e = subst (λ (k : Key). value_for (key_text k) c.args.word.now ≡ Some c.in-Some.value.now) c.in-Table.is c.in-Some.ensures in
+    let e = subst (λ (k : Key). HasValue c.args.word.now k c.in-Some.value.now) c.in-Table.is c.in-Some.ensures in
     let has = subst (λ (k : Key). true ≡ has_key c.args.name k) c.in-Table.is c.if-not-has.ensures in
-    never_file c.args.name Table (λ xs s. s) further c.args.word.now c.in-Some.value.now c.args.self.now.table c.file_name.result (sym has) e g.table
+    never_file c.args.name Table (λ xs s. s) further c.args.word.now c.in-Some.value.now c.args.self.now.table c.file_name.result (sym has) e (g.stood Table)
     c.file_name.ensures (sym c.put-in-Table.ensures.first ∙ t))
 
 pub returns-in-Grid-clause-taken : goal.returns-in-Grid-clause-taken
 returns-in-Grid-clause-taken c = λ further g. OnTrue_from c.put-in-Grid.result _ (λ t.
-    let e = subst (λ (k : Key). value_for (key_text k) c.args.word.now ≡ Some c.in-Some.value.now) c.in-Grid.is c.in-Some.ensures in
-    record {
-      keyed =
-          All-push (λ w. has_key_of (keys_of c.args.name) w ≡ true) further c.args.word.now g.keyed
-          (has_key_of-key c.args.name c.in-Some.key c.args.word.now c.in-Some.value.now c.in-Some.ensures ∙ sym c.if-not-has.ensures);
-      kind = Stood-other IsKind c.args.self.now.kind (codes "kind") further c.args.word.now (value_for-other (codes "grid") (codes "kind") c.args.word.now c.in-Some.value.now e refl) g.kind;
-      dim = Stood-other IsDimension c.args.self.now.dim (codes "dim") further c.args.word.now (value_for-other (codes "grid") (codes "dim") c.args.word.now c.in-Some.value.now e refl) g.dim;
-      fits = g.fits;
-      table = Stood-other IsFile (option_copied c.args.self.now.table) (codes "table") further c.args.word.now (value_for-other (codes "grid") (codes "table") c.args.word.now c.in-Some.value.now e refl) g.table;
-      grid = rw (OnTrue_at t c.put-in-Grid.ensures.value) (first_file (codes "grid") further c.args.word.now c.in-Some.value.now c.args.self.now.grid c.file_name-in-Grid.result e g.grid c.file_name-in-Grid.ensures (sym c.put-in-Grid.ensures.first ∙ t));
-      iso = Stood-other IsIsovalue c.args.self.now.iso (codes "iso") further c.args.word.now (value_for-other (codes "grid") (codes "iso") c.args.word.now c.in-Some.value.now e refl) g.iso;
-    })
+    let e = subst (λ (k : Key). HasValue c.args.word.now k c.in-Some.value.now) c.in-Grid.is c.in-Some.ensures in
+    let has = subst (λ (k : Key). true ≡ has_key c.args.name k) c.in-Grid.is c.if-not-has.ensures in
+    let first =
+    first_file (codes "grid") further c.args.word.now c.in-Some.value.now c.args.self.now.grid c.file_name-in-Grid.result e (g.stood Grid)
+    c.file_name-in-Grid.ensures (sym c.put-in-Grid.ensures.first ∙ t) in
+    Gave-taken c.args.name Grid c.args.self.now _ further c.args.word.now c.in-Some.value.now (sym has) e refl
+    (rw (OnTrue_at t c.put-in-Grid.ensures.value) first) g.fits g)
 
 pub returns-in-Grid-clause-refused : goal.returns-in-Grid-clause-refused
 returns-in-Grid-clause-refused c = λ further g. OnFalse_from c.put-in-Grid.result _ (λ t.
-    let e = subst (λ (k : Key). value_for (key_text k) c.args.word.now ≡ Some c.in-Some.value.now) c.in-Grid.is c.in-Some.ensures in
+    let e = subst (λ (k : Key). HasValue c.args.word.now k c.in-Some.value.now) c.in-Grid.is c.in-Some.ensures in
     let has = subst (λ (k : Key). true ≡ has_key c.args.name k) c.in-Grid.is c.if-not-has.ensures in
     never_file c.args.name Grid (λ xs s. s) further c.args.word.now c.in-Some.value.now c.args.self.now.grid c.file_name-in-Grid.result (sym has) e
-    g.grid c.file_name-in-Grid.ensures (sym c.put-in-Grid.ensures.first ∙ t))
+    (g.stood Grid) c.file_name-in-Grid.ensures (sym c.put-in-Grid.ensures.first ∙ t))
 
 pub returns-in-Iso-clause-taken : goal.returns-in-Iso-clause-taken
 returns-in-Iso-clause-taken c = λ further g. OnTrue_from c.put-in-Iso.result _ (λ t.
-    let e = subst (λ (k : Key). value_for (key_text k) c.args.word.now ≡ Some c.in-Some.value.now) c.in-Iso.is c.in-Some.ensures in
-    record {
-      keyed =
-          All-push (λ w. has_key_of (keys_of c.args.name) w ≡ true) further c.args.word.now g.keyed
-          (has_key_of-key c.args.name c.in-Some.key c.args.word.now c.in-Some.value.now c.in-Some.ensures ∙ sym c.if-not-has.ensures);
-      kind = Stood-other IsKind c.args.self.now.kind (codes "kind") further c.args.word.now (value_for-other (codes "iso") (codes "kind") c.args.word.now c.in-Some.value.now e refl) g.kind;
-      dim = Stood-other IsDimension c.args.self.now.dim (codes "dim") further c.args.word.now (value_for-other (codes "iso") (codes "dim") c.args.word.now c.in-Some.value.now e refl) g.dim;
-      fits = g.fits;
-      table = Stood-other IsFile (option_copied c.args.self.now.table) (codes "table") further c.args.word.now (value_for-other (codes "iso") (codes "table") c.args.word.now c.in-Some.value.now e refl) g.table;
-      grid = Stood-other IsFile (option_copied c.args.self.now.grid) (codes "grid") further c.args.word.now (value_for-other (codes "iso") (codes "grid") c.args.word.now c.in-Some.value.now e refl) g.grid;
-      iso = rw (OnTrue_at t c.put-in-Iso.ensures.value) (first_stands IsIsovalue c.args.self.now.iso c.isovalue.result (codes "iso") further c.args.word.now c.in-Some.value.now e g.iso (sym c.put-in-Iso.ensures.first ∙ t) c.isovalue.ensures);
-    })
+    let e = subst (λ (k : Key). HasValue c.args.word.now k c.in-Some.value.now) c.in-Iso.is c.in-Some.ensures in
+    let has = subst (λ (k : Key). true ≡ has_key c.args.name k) c.in-Iso.is c.if-not-has.ensures in
+    let first =
+    first_stands IsIsovalue c.args.self.now.iso c.isovalue.result (codes "iso") further c.args.word.now c.in-Some.value.now e (g.stood Iso)
+    (sym c.put-in-Iso.ensures.first ∙ t) c.isovalue.ensures in
+    Gave-taken c.args.name Iso c.args.self.now _ further c.args.word.now c.in-Some.value.now (sym has) e refl
+    (rw (OnTrue_at t c.put-in-Iso.ensures.value) first) g.fits g)
 
 pub returns-in-Iso-clause-refused : goal.returns-in-Iso-clause-refused
 returns-in-Iso-clause-refused c = λ further g. OnFalse_from c.put-in-Iso.result _ (λ t.
-    let e = subst (λ (k : Key). value_for (key_text k) c.args.word.now ≡ Some c.in-Some.value.now) c.in-Iso.is c.in-Some.ensures in
+    let e = subst (λ (k : Key). HasValue c.args.word.now k c.in-Some.value.now) c.in-Iso.is c.in-Some.ensures in
     let has = subst (λ (k : Key). true ≡ has_key c.args.name k) c.in-Iso.is c.if-not-has.ensures in
-    never_isovalue c.args.name further c.args.word.now c.in-Some.value.now c.args.self.now.iso c.isovalue.result (sym has) e g.iso c.isovalue.ensures
+    never_isovalue c.args.name further c.args.word.now c.in-Some.value.now c.args.self.now.iso c.isovalue.result (sym has) e (g.stood Iso) c.isovalue.ensures
     (sym c.put-in-Iso.ensures.first ∙ t))
