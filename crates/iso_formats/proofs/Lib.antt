@@ -3,6 +3,8 @@ pub mod GridFileTests
 pub mod CommandTests
 pub mod TableLaws
 pub mod TableFaultTests
+pub mod TableFile2Laws
+pub mod TableFile2Cases
 pub mod HeaderLaws
 pub mod LineLaws
 pub mod HeaderFaultLaws

@@ -4,7 +4,7 @@
 //! their worked cases, each computed by the checker (`*Tests`), and laws about them (`*Laws`). Bytes are numbers, files and texts are lists of bytes.
 //!
 //! - grid files: `HeaderLines` (the lines of a header), `GridFile` (what a header and its data spell), `GridFaults` (what is wrong with them);
-//! - table files: `TableFile` (their bytes and faults);
+//! - table files: `TableFile` (version 1, its bytes and faults), `TableFile2` (version 2, and the file of either version);
 //! - meshes: `MeshText` (the text of a mesh);
 //! - the program: `Commands` (its words), `Demo` (its demonstration).
 //!
