@@ -64,6 +64,14 @@ IsBipolarOfCube kind per n g iso number e = IsBipolarFrom (volume kind g iso Non
 abbrev pub AddsRead : {D : ℕ} {T E : Type 0} → SignedCube D → Result T E → (Grid → ℤ → ℕ → Splits.Edge → Type 0) → List (Edge D) → List (Edge D) → Type 0
 AddsRead cube call P old new = WhereRead cube (λ g iso number. OnOk call (Adds (P g iso number) (edges_of old) (edges_of new)))
 
+-- it has added the edges of the cell of this rank that are bipolar in the label, among those whose numbers are below n
+abbrev pub AddsOfCell : {D : ℕ} {T E : Type 0} → SignedCube D → Result T E → Kind → ℕ → ℕ → ℕ → ℕ → List (Edge D) → List (Edge D) → Type 0
+AddsOfCell cube call kind per rank label n old new = AddsRead cube call (IsBipolarOfCell kind per rank label n) old new
+
+-- it has added edge k of the cell of this rank, where the edge is bipolar in the label
+abbrev pub AddsIfBipolar : {D : ℕ} {T E : Type 0} → SignedCube D → Result T E → Kind → ℕ → ℕ → ℕ → ℕ → List (Edge D) → List (Edge D) → Type 0
+AddsIfBipolar cube call kind per rank label k old new = AddsRead cube call (IsBipolarThere kind per rank label k) old new
+
 -- ---- places
 
 -- the place of an edge in a list, or that the edge is not there

@@ -5,7 +5,7 @@ ghost use Rattle.iso_model.specs.Points.{plus};
 ghost use Rattle.iso_model.specs.Values.{IsRegularGrid, volume};
 ghost use Rattle.iso_model.specs.Dimensions.{IsDimension};
 ghost use Rattle.edge_vertex.specs.EdgeValue.{edge_of, edges_of, order_of, Adds, AddsRead, AreBipolarEdges, StandApart};
-ghost use Rattle.edge_vertex.specs.EdgeValue.{IsBipolarThere, IsBipolarOfCell, IsBipolarOfCube};
+ghost use Rattle.edge_vertex.specs.EdgeValue.{AddsIfBipolar, AddsOfCell, IsBipolarOfCube};
 ghost use Rattle.iso_model.specs.Bipolar.{bipolar_edges};
 
 use crate::edges::{EdgeList, EdgeSet};
@@ -95,7 +95,7 @@ fn add_cell<C: Split<D>, const D: usize>(
     requires few { (i : ℕ) → i < D → slice_index cube.now.place i < 2 ^ 27 }
     requires rank { rank < C.PER_CUBE }
     requires label { label < 2 ^ C.CORNERS }
-    ensures { AddsRead cube.now result (IsBipolarOfCell C.KIND C.PER_CUBE rank label C.EDGES) edges.old.keys edges.new.keys }
+    ensures { AddsOfCell cube.now result C.KIND C.PER_CUBE rank label C.EDGES edges.old.keys edges.new.keys }
 {
     if label == 0 {
         return Ok(());
@@ -120,7 +120,7 @@ fn add_if<C: Split<D>, const D: usize>(
     requires few { (i : ℕ) → i < D → slice_index cube.now.place i < 2 ^ 27 }
     requires rank { rank < C.PER_CUBE }
     requires edge { edge < C.EDGES }
-    ensures { AddsRead cube.now result (IsBipolarThere C.KIND C.PER_CUBE rank label edge) edges.old.keys edges.new.keys }
+    ensures { AddsIfBipolar cube.now result C.KIND C.PER_CUBE rank label edge edges.old.keys edges.new.keys }
 {
     if is_bipolar::<C, D>(label, edge) {
         return add(edges, cube.edge::<C>(rank, edge));

@@ -1,6 +1,7 @@
 -- The choices of D points among which the facets are found.
 use Rattle.std.specs.Prelude.{◌≡◌, ℕ, ◌+◌, ◌<◌, ◌≤◌, ◌⊎◌, ◌≤ℤ◌, ◌<ℤ◌, ℤ, pos, List, [], ◌∷◌, ◌++◌, map, length, sum_by, nat_eq, All, Any, Contains, IsTrue}
-use Rattle.std.specs.Prelude.{if◌then◌else◌}
+use Rattle.std.specs.Prelude.{Bool, if◌then◌else◌}
+use Rattle.std.specs.Bool.{MatchBool}
 use Rattle.std.specs.Int.{bit_at}
 use Rattle.lists.specs.Orders.{has}
 use Rattle.iso_model.specs.Turns.{HalfSpace, slack, Holds, Spans}
@@ -25,6 +26,10 @@ HasInside normal bound points = Any (λ x. pos 0 <ℤ slack (record { normal = n
 abbrev pub HasNoInside : List ℤ → ℤ → List (List ℤ) → Type 0
 HasNoInside normal bound points = All (λ x. slack (record { normal = normal; bound = bound }) x ≤ℤ pos 0) points
 
+-- whether some point does
+abbrev pub TellsInside : List ℤ → ℤ → List (List ℤ) → Bool → Type 0
+TellsInside normal bound points some = MatchBool some (HasInside normal bound points) (HasNoInside normal bound points)
+
 -- some point lies outside it
 abbrev pub HasOutside : List ℤ → ℤ → List (List ℤ) → Type 0
 HasOutside normal bound points = Any (λ x. slack (record { normal = normal; bound = bound }) x <ℤ pos 0) points
@@ -32,6 +37,10 @@ HasOutside normal bound points = Any (λ x. slack (record { normal = normal; bou
 -- and none does
 abbrev pub HoldsAll : List ℤ → ℤ → List (List ℤ) → Type 0
 HoldsAll normal bound points = All (Holds (record { normal = normal; bound = bound })) points
+
+-- whether some point does
+abbrev pub TellsOutside : List ℤ → ℤ → List (List ℤ) → Bool → Type 0
+TellsOutside normal bound points some = MatchBool some (HasOutside normal bound points) (HoldsAll normal bound points)
 
 -- each number is below n
 abbrev pub AreBelow : ℕ → List ℕ → Type 0

@@ -6,7 +6,7 @@ ghost use Rattle.std.specs.Int.{bit_at};
 ghost use Rattle.polynomials.specs.Small.{IsSmall, AreSmall};
 ghost use Rattle.iso_model.specs.Turns.{HasNormal, Holds, slack};
 ghost use Rattle.iso_model.specs.Hulls.{members};
-ghost use Rattle.halfspace.specs.Choices.{AreFacetNumbers, AreSomeFacets, IsTried, AreTried, IsWithinSome, HasNoFacet, IsFacetThrough, HasInside, HasNoInside, HasOutside, HoldsAll, AreBelow};
+ghost use Rattle.halfspace.specs.Choices.{AreFacetNumbers, AreSomeFacets, IsTried, AreTried, IsWithinSome, HasNoFacet, IsFacetThrough, TellsInside, TellsOutside, AreBelow};
 
 use crate::boundary::{slack, tight};
 use iso_base::Memory;
@@ -19,7 +19,7 @@ fn some_inside<const D: usize>(half: &HalfSpace<D>, points: &[[i32; D]]) -> bool
     requires coefficients { AreSmall (2 ^ 24) half.now.normal }
     requires constant { IsSmall (2 ^ 40) half.now.bound }
     requires small { All (λ point. AreSmall 64 point) points.now }
-    ensures { MatchBool result (HasInside half.now.normal half.now.bound points.now) (HasNoInside half.now.normal half.now.bound points.now) }
+    ensures { TellsInside half.now.normal half.now.bound points.now result }
 {
     for point in points {
         if slack(half, point) > 0 {
@@ -35,7 +35,7 @@ fn some_outside<const D: usize>(half: &HalfSpace<D>, points: &[[i32; D]]) -> boo
     requires coefficients { AreSmall (2 ^ 24) half.now.normal }
     requires constant { IsSmall (2 ^ 40) half.now.bound }
     requires small { All (λ point. AreSmall 64 point) points.now }
-    ensures { MatchBool result (HasOutside half.now.normal half.now.bound points.now) (HoldsAll half.now.normal half.now.bound points.now) }
+    ensures { TellsOutside half.now.normal half.now.bound points.now result }
 {
     for point in points {
         if slack(half, point) < 0 {

@@ -8,6 +8,10 @@ pub record NumberedCalls : Type 0 where
   pub next : ℕ
   pub faults : ℕ
 
+-- calls of which none was made, and those of these numbers are to fail
+abbrev pub no_calls : List ℕ → NumberedCalls
+no_calls fail = record { fail = fail; next = 0; faults = 0 }
+
 -- one more, up to 2^64 - 1
 abbrev pub one_more : ℕ → ℕ
 one_more n = min (n + 1) (2 ^ 64 - 1)

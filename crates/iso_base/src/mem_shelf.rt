@@ -5,10 +5,10 @@ ghost use Rattle.std.proofs.Common.{rules};
 ghost use Rattle.std.specs.Io.{ReadsAtMost};
 ghost use Rattle.std.specs.Io.KnownBytes.{ReadConsumes};
 ghost use Rattle.iso_base.specs.Faults.{CountsFaults};
-ghost use Rattle.iso_base.specs.Files.{bytes_of, file_bytes, BeginsFile};
+ghost use Rattle.iso_base.specs.Files.{file_bytes, BeginsFile};
 ghost use Rattle.iso_base.specs.Calls.{after_call, is_to_fail};
-ghost use Rattle.iso_base.specs.InMemory.{names_differ, begin_fails, rest_begun, taken_count};
-ghost use Rattle.iso_base.specs.Places.{bytes_at, rest_from, IsWithin};
+ghost use Rattle.iso_base.specs.InMemory.{names_differ, new_shelf, begin_fails, after_begin, taken_count, after_take};
+ghost use Rattle.iso_base.specs.Places.{rest_from, IsWithin, TellsFile};
 
 use crate::calls::Calls;
 use crate::outside::{Failed, Shelf};
@@ -65,7 +65,7 @@ impl MemShelf {
     pub fn new(files: Vec<MemFile>, fail: Vec<u64>, step: usize) -> MemShelf
         requires names { IsTrue (names_differ files.items) }
         requires step { 1 ≤ step }
-        ensures made { result ≡ record { files = files.items; rest = []; step = step; calls = record { fail = fail.items; next = 0; faults = 0 } } }
+        ensures made { result ≡ new_shelf files.items fail.items step }
 
         // What it tells as a shelf.
         ensures files { ⟦<MemShelf as Shelf>⟧.files result ≡ Some files.items }
@@ -85,7 +85,7 @@ impl MemShelf {
 
 // The place of the file of this name.
 fn place_of(files: &[MemFile], name: &str) -> Option<usize>
-    ensures { MatchOption result (file_bytes files.now name.now ≡ None) (λ place. (place < length files.now) × (file_bytes files.now name.now ≡ Some (bytes_at files.now place))) }
+    ensures { TellsFile files.now name.now result }
 {
     for (place, file) in files.iter().enumerate() {
         if file.name.as_str() == name {
@@ -129,10 +129,10 @@ impl Shelf for MemShelf {
         ensures stay { self.new.files ≡ self.old.files }
         ensures begun { BeginsFile (Some self.old.files) (Some self.new.rest) name.now result }
         ensures sound_stays { self.old.calls.fail ≡ [] → self.new.calls.fail ≡ [] }
-        ensures sound_begins { self.old.calls.fail ≡ [] → IsSome (bytes_of (Some self.old.files) name.now) → IsOk result }
+        ensures sound_begins { self.old.calls.fail ≡ [] → IsSome (file_bytes self.old.files name.now) → IsOk result }
 
         ensures fails { is_err result ≡ begin_fails self.old name.now }
-        ensures after { self.new ≡ record self.old { rest = rest_begun self.old name.now result; calls = after_call self.old.calls result } }
+        ensures after { self.new ≡ after_begin self.old name.now result }
     {
         self.start = 0;
         self.begun = None;
@@ -157,7 +157,7 @@ impl Shelf for MemShelf {
         ensures fails { is_err result ≡ is_to_fail self.old.calls }
         ensures count { IfOk result (λ count. count ≡ taken_count self.old (length buf.old)) }
         ensures given { IfOk result (λ count. buf.new ≡ take count self.old.rest ++ drop count buf.old) }
-        ensures after { IfOk result (λ count. self.new ≡ record self.old { rest = drop count self.old.rest; calls = after_call self.old.calls result }) }
+        ensures after { IfOk result (λ count. self.new ≡ after_take self.old result count) }
         ensures kept { OnErr result (buf.new ≡ buf.old) }
         ensures failed { OnErr result (self.new ≡ record self.old { calls = after_call self.old.calls result }) }
     {

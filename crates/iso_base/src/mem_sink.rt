@@ -5,7 +5,7 @@ ghost use Rattle.std.specs.Io.{WritesAtMost};
 ghost use Rattle.std.specs.Io.KnownBytes.{WriteAppends};
 ghost use Rattle.iso_base.specs.Faults.{CountsFaults};
 ghost use Rattle.iso_base.specs.Calls.{after_call};
-ghost use Rattle.iso_base.specs.InMemory.{put_fails, put_count};
+ghost use Rattle.iso_base.specs.InMemory.{new_sink, put_fails, put_count, after_put};
 
 use crate::calls::Calls;
 use crate::outside::{Failed, Memory, Sink};
@@ -41,7 +41,7 @@ impl MemSink {
     /// are in `fail` are to fail, and a `put` takes at most `step` bytes, which is at least 1.
     pub fn new(alloc: Global, room: usize, fail: Vec<u64>, step: usize) -> Result<MemSink, Memory>
         requires { 1 ≤ step }
-        ensures made { IfOk result (λ sink. sink ≡ record { bytes = []; room = room; step = step; calls = record { fail = fail.items; next = 0; faults = 0 } }) }
+        ensures made { IfOk result (λ sink. sink ≡ new_sink room fail.items step) }
 
         // What it tells as a sink.
         ensures empty { IfOk result (λ sink. ⟦<MemSink as Sink>⟧.bytes sink ≡ Some []) }
@@ -79,7 +79,7 @@ impl Sink for MemSink {
 
         ensures fails { is_err result ≡ put_fails self.old buf.now }
         ensures count { IfOk result (λ count. count ≡ put_count self.old buf.now) }
-        ensures after { IfOk result (λ count. self.new ≡ record self.old { bytes = self.old.bytes ++ take count buf.now; calls = after_call self.old.calls result }) }
+        ensures after { IfOk result (λ count. self.new ≡ after_put self.old buf.now result count) }
         ensures failed { OnErr result (self.new ≡ record self.old { calls = after_call self.old.calls result }) }
     {
         if self.calls.start() {

@@ -1,4 +1,5 @@
--- The text of a mesh.
+-- The text of a mesh. Its numbers are written by std's decimal, which gives the digits of each number below 10^64; the coordinates and counts of
+-- a mesh that a call writes have at most 64 bits.
 use Rattle.std.specs.Prelude.{◌≡◌, ◌<◌, ◌≤◌, ◌^◌, All, nat_abs, ℕ, zero, suc, ◌+◌, ◌/◌, ◌%◌, ◌==◌, List, [], ◌∷◌, ◌++◌, map, length, ℤ, pos, negsuc}
 use Rattle.std.specs.Prelude.{decimal, codes, flat_map, if◌then◌else◌}
 use Rattle.iso_model.specs.Faces.{Mesh, IsMesh}

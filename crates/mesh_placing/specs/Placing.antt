@@ -14,7 +14,8 @@ use Rattle.cube_cells.specs.declared.cubes.SignedCube.{SignedCube}
 use Rattle.cube_cells.specs.SignedCubes.{IsSignedCube, WhereRead}
 use Rattle.edge_vertex.specs.EdgeEnds.{AreNear}
 
--- the entry of each label has the bipolar edges of the label and no others
+-- the entry of each label keeps the rule of bipolar edges: its tuples have D different edges, all bipolar in the label, and each edge that is
+-- bipolar in it stands in one of them
 abbrev pub EachKeepsEdges : Kind → ℕ → Table → Type 0
 EachKeepsEdges kind d t = (label : ℕ) → label < label_count kind d → rule_edges kind d label (entry_of t label) ≡ true
 
@@ -74,9 +75,13 @@ simplices_of v t edges = flat_map (cell_simplices v t edges) (cells v)
 abbrev pub placed_by : Bool → List ℕ → List (List ℕ) → List (List ℕ)
 placed_by odd places tuples = map (placed_tuple odd (λ e. slice_index places e)) tuples
 
+-- these are all of them
+abbrev pub AreSimplicesOf : {A : Type 0} → Volume → Table → List Edge → Vec (List ℕ) A → Type 0
+AreSimplicesOf v t edges simplices = simplices.items ≡ simplices_of v t edges
+
 -- the simplices of the cells of a cube of a grid are added at the end
-abbrev pub AddsCube : {A : Type 0} → Kind → ℕ → Grid → ℤ → Table → List Edge → ℕ → Vec (List ℕ) A → Vec (List ℕ) A → Type 0
-AddsCube kind d g iso t edges number old new =
+abbrev pub AddsAt : {A : Type 0} → Kind → ℕ → Grid → ℤ → Table → List Edge → ℕ → Vec (List ℕ) A → Vec (List ℕ) A → Type 0
+AddsAt kind d g iso t edges number old new =
     new.items ≡ old.items ++ flat_map (cell_simplices (volume kind g iso None) t edges) (cube_cells kind d number)
 
 -- ---- the cell of this rank in a cube that was read, each cube with this many cells
@@ -90,3 +95,8 @@ abbrev pub AddsPlaced : {D : ℕ} {T E A : Type 0} → SignedCube D → Result T
     → Vec (List ℕ) A → Type 0
 AddsPlaced cube call kind per rank edges tuples old new =
     WhereRead cube (λ g iso number. OnOk call (new.items ≡ old.items ++ placed_tuples kind g.sizes edges (number * per + rank) tuples))
+
+-- the same of the entry of a label
+abbrev pub AddsEntry : {D : ℕ} {T E A : Type 0} → SignedCube D → Result T E → Kind → ℕ → ℕ → ℕ → List Edge → Table → Vec (List ℕ) A
+    → Vec (List ℕ) A → Type 0
+AddsEntry cube call kind per rank label edges t old new = AddsPlaced cube call kind per rank edges (entry_of t label) old new

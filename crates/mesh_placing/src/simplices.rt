@@ -8,7 +8,7 @@ ghost use Rattle.iso_model.specs.Acceptance.{rule_edges};
 ghost use Rattle.iso_model.specs.Placed.{placed_tuple as placed_tuple_of};
 ghost use Rattle.mixed_cubes.specs.CubePlaces.{place_of};
 ghost use Rattle.cube_cells.specs.SignedCubes.{AreSteps};
-ghost use Rattle.mesh_placing.specs.Placing.{FitsGrid, HasListedEdges, AddsCube, AddsPlaced, simplices_of, placed_by};
+ghost use Rattle.mesh_placing.specs.Placing.{FitsGrid, HasListedEdges, AddsAt, AddsEntry, AreSimplicesOf, placed_by};
 
 use crate::places::{MOST_EDGES, cell_places};
 use cube_cells::{CubeSteps, SignedCube};
@@ -33,7 +33,7 @@ pub fn all_simplices<C: Split<D>, const D: usize>(
     requires axes { length grid.now.sizes ≡ D }
     requires iso { unsigned_abs iso ≤ 2 ^ 40 }
     requires listed { edges.now ≡ bipolar_edges (volume C.KIND grid.now iso None) }
-    ensures { IfOk result (λ simplices. simplices.items ≡ simplices_of (volume C.KIND grid.now iso None) table.now edges.now) }
+    ensures { IfOk result (AreSimplicesOf (volume C.KIND grid.now iso None) table.now edges.now) }
 {
     let cubes = mixed_cubes(alloc, grid, iso)?;
     let steps = CubeSteps::new(grid);
@@ -62,7 +62,7 @@ fn add_cube<C: Split<D>, const D: usize>(
     requires steps { AreSteps grid.now.sizes steps.now }
     requires cube { place.number < cube_count grid.now.sizes }
     requires place { place ≡ place_of grid.now.sizes place.number }
-    ensures { OnOk result (AddsCube C.KIND D grid.now iso table.now edges.now place.number simplices.old simplices.new) }
+    ensures { OnOk result (AddsAt C.KIND D grid.now iso table.now edges.now place.number simplices.old simplices.new) }
 {
     let cube = SignedCube::read(grid, steps, place, iso);
     for rank in 0..C::PER_CUBE {
@@ -87,7 +87,7 @@ fn add_cell<C: Split<D>, const D: usize>(
     requires label { label < label_count C.KIND D }
     requires sound { rule_edges C.KIND D label (entry_of table.now label) ≡ true }
     requires listed { HasListedEdges C.KIND C.PER_CUBE edges.now cube.now rank label }
-    ensures { AddsPlaced cube.now result C.KIND C.PER_CUBE rank edges.now (entry_of table.now label) simplices.old simplices.new }
+    ensures { AddsEntry cube.now result C.KIND C.PER_CUBE rank label edges.now table.now simplices.old simplices.new }
 {
     let _ = table.kind();
     let tuples = table.tuples(label);

@@ -1,5 +1,5 @@
 -- Where the cubes of a grid are.
-use Rattle.std.specs.Prelude.{ℕ, ◌+◌, ◌-◌, List, map, filter, ℤ}
+use Rattle.std.specs.Prelude.{◌≡◌, ℕ, ◌+◌, ◌-◌, List, ◌++◌, map, filter, ℤ, Vec}
 use Rattle.std.specs.List.{range_with_len}
 use Rattle.lists.specs.Orders.{numbers}
 use Rattle.iso_model.specs.Splits.{cube_at, cube_count}
@@ -25,3 +25,7 @@ mixed_places sizes samples iso =
 abbrev pub mixed_in_row : ℤ → List ℤ → List ℕ → ℕ → ℕ → ℕ → List CubePlace
 mixed_in_row iso samples steps first number span =
     map (place_in_row first number) (filter (λ c. is_mixed_from iso samples steps (first + (c - number))) (range_with_len number span))
+
+-- they are added to a list, at its end
+abbrev pub AddsRow : {A : Type 0} → ℤ → List ℤ → List ℕ → ℕ → ℕ → ℕ → Vec CubePlace A → Vec CubePlace A → Type 0
+AddsRow iso samples steps first number span old new = new.items ≡ old.items ++ mixed_in_row iso samples steps first number span

@@ -2,7 +2,7 @@
 
 ghost use Rattle.std.specs.Prelude.{◌≡◌, ℕ, ◌+◌, ◌*◌, ◌^◌, [], ◌∷◌, ◌++◌, ◌<◌, ◌≤◌, length, slice_index, unsigned_abs, All, IfOk, OnOk, if◌then◌else◌};
 ghost use Rattle.iso_model.specs.Values.{IsRegularGrid, product};
-ghost use Rattle.mixed_cubes.specs.CubePlaces.{mixed_places, mixed_in_row};
+ghost use Rattle.mixed_cubes.specs.CubePlaces.{AddsRow, mixed_places};
 ghost use Rattle.mixed_cubes.specs.CubeFaces.{corner_number as corner_number_of};
 
 use crate::faces::{are_mixed, face_signs};
@@ -83,7 +83,7 @@ fn add_row(
     requires inside { (k : ℕ) → k < length steps.now → first + span + slice_index steps.now k < length samples.now }
     requires few { length samples.now ≤ 2 ^ 27 }
     requires numbers { number + span ≤ 2 ^ 27 }
-    ensures { OnOk result (cubes.new.items ≡ cubes.old.items ++ mixed_in_row iso samples.now steps.now first number span) }
+    ensures { OnOk result (AddsRow iso samples.now steps.now first number span cubes.old cubes.new) }
 {
     let mut near = face_signs(samples, steps, first, iso);
     for place in 0..span {
