@@ -1,3 +1,4 @@
 mod EmptyEntries
 mod OrderedSeams
+mod PieceVerdicts
 mod RuleOrder

@@ -52,11 +52,13 @@ told_path ss t label = told (λ k n v. rule_path k n label v) t label
 
 -- ---- what later rules count on
 
-pub kept_edges : (ss : List Seam) (t : Table) (label n : ℕ) (kind : Kind) (d : ℕ) (ws : List (List ℕ)) → IsLabelAt t label kind d ws → KeepsBelow ss t label n → 1 < n
+pub kept_edges : (ss : List Seam) (t : Table) (label n : ℕ) (kind : Kind) (d : ℕ) (ws : List (List ℕ))
+    → IsLabelAt t label kind d ws → KeepsBelow ss t label n → 1 < n
     → rule_edges kind d label ws ≡ true
 kept_edges ss t label n kind d ws is before h = sym (told_edges ss t label kind d ws (rule_edges kind d label ws) is refl) ∙ before 1 h
 
-pub kept_faces : (ss : List Seam) (t : Table) (label n : ℕ) (kind : Kind) (d : ℕ) (ws : List (List ℕ)) → IsLabelAt t label kind d ws → KeepsBelow ss t label n → 3 < n
+pub kept_faces : (ss : List Seam) (t : Table) (label n : ℕ) (kind : Kind) (d : ℕ) (ws : List (List ℕ))
+    → IsLabelAt t label kind d ws → KeepsBelow ss t label n → 3 < n
     → rule_faces kind d ws ≡ true
 kept_faces ss t label n kind d ws is before h = sym (told_faces ss t label kind d ws (rule_faces kind d ws) is refl) ∙ before 3 h
 

@@ -8,6 +8,7 @@ mod certified;
 mod labels;
 mod laws;
 mod ordered;
+mod parts;
 #[cfg(test)]
 mod tests;
 mod verdicts;
@@ -16,4 +17,5 @@ pub use certified::{CertifyFault, Checked, certify};
 pub use labels::check;
 pub use laws::empty_ends_law;
 pub use ordered::{OrderedChecked, certify_ordered, check_ordered};
+pub use parts::{certify_parts, check_parts};
 pub use verdicts::Verdict;

@@ -1,8 +1,13 @@
 //! Tables of squares and simplices, and spoiled ones.
 
-use crate::{CertifyFault, Verdict, certify, certify_ordered, check, check_ordered};
+use crate::{
+    CertifyFault, Verdict, certify, certify_ordered, certify_parts, check, check_ordered,
+    check_parts,
+};
 use cell_lattice::{CubeCell, SimplexCell};
+use iso_base::{Gate, OpenGate};
 use std::alloc::Global;
+use std::sync::atomic::{AtomicU64, Ordering};
 use std::test::Fail;
 use table_file::{AnyTable, Kind, decode};
 
@@ -193,6 +198,63 @@ fn tables_are_certified_for_ordered_simplices(rt: HostRuntime) -> Result<(), Fai
                 assert_eq!(rt; table.labels(), 16);
             }
             Err(CertifyFault::Memory { table: _table }) => return Err("no memory".into()),
+        }
+    }
+    Ok(())
+}
+
+/// A gate that notes the set of the pieces that passed, and counts them.
+#[derive(Drop)]
+struct Noted {
+    pieces: AtomicU64,
+    passes: AtomicU64,
+}
+
+impl Gate for Noted {
+    fn pass(&self, piece: u32) {
+        if piece < 64 {
+            self.pieces.fetch_or(1 << piece, Ordering::SeqCst);
+        }
+        self.passes.fetch_add(1, Ordering::SeqCst);
+    }
+}
+
+#[test]
+fn parts_have_the_same_answer(rt: HostRuntime) -> Result<(), Fail> {
+    let alloc = rt.alloc();
+    // the table of the square, with bytes of label 1 or of label 8 changed
+    let cases = [
+        (24, 0, 25, 1, Verdict::Accepted),
+        (24, 1, 25, 0, refused(1, 4)),
+        (68, 2, 69, 3, refused(2, 6)),
+    ];
+    for (first, one, second, two, verdict) in cases {
+        for parts in [1, 2, 3, 7, 16, 64u32] {
+            let mut bytes = SQUARE;
+            bytes[first] = one;
+            bytes[second] = two;
+            let AnyTable::T2(table) = decode(alloc, &bytes)? else {
+                return Err("no table of two dimensions".into());
+            };
+            if table.kind() != Kind::Cube {
+                return Err("no table of the square".into());
+            }
+            let gate = Noted {
+                pieces: AtomicU64::new(0),
+                passes: AtomicU64::new(0),
+            };
+            let found = check_parts::<HostRuntime, CubeCell<2>, 2, Noted>(
+                &rt, alloc, &table, parts, &gate,
+            )?;
+            assert_eq!(rt; found, verdict);
+            let pieces = gate.pieces.load(Ordering::SeqCst);
+            assert_eq!(rt; pieces, u64::MAX >> (64 - parts));
+            let passes = gate.passes.load(Ordering::SeqCst);
+            assert_eq!(rt; passes, u64::from(parts));
+            let certified = certify_parts::<HostRuntime, CubeCell<2>, 2, OpenGate>(
+                &rt, alloc, table, parts, &OpenGate,
+            );
+            assert_eq!(rt; certified.is_ok(), verdict == Verdict::Accepted);
         }
     }
     Ok(())
