@@ -1,9 +1,10 @@
 //! Tables of single cells.
 
-use crate::make;
+use crate::{make, make_parts};
 use cell_lattice::{Cell, CubeCell, SimplexCell};
-use iso_base::Memory;
+use iso_base::{Gate, Memory, OpenGate};
 use std::alloc::Global;
+use std::sync::atomic::{AtomicBool, Ordering};
 use table_file::encode;
 
 /// The table of the square.
@@ -75,4 +76,61 @@ fn tables_of_the_square_and_of_simplices(rt: HostRuntime) {
     assert_eq!(rt; triangle.as_slice(), TRIANGLE.as_slice());
     let tetrahedron = bytes_of::<SimplexCell<3>, 3>(rt.alloc()).expect(&rt, "memory");
     assert_eq!(rt; tetrahedron.as_slice(), TETRAHEDRON.as_slice());
+}
+
+#[test]
+fn parts_make_the_same_table(rt: HostRuntime) {
+    for parts in [1, 2, 3, 7, 16, 64] {
+        let square = make_parts::<HostRuntime, CubeCell<2>, 2, OpenGate>(
+            &rt,
+            rt.alloc(),
+            parts,
+            &OpenGate,
+        );
+        let square = encode(rt.alloc(), &square.expect(&rt, "memory")).expect(&rt, "memory");
+        assert_eq!(rt; square.as_slice(), SQUARE.as_slice());
+        let triangle = make_parts::<HostRuntime, SimplexCell<2>, 2, OpenGate>(
+            &rt,
+            rt.alloc(),
+            parts,
+            &OpenGate,
+        );
+        let triangle = encode(rt.alloc(), &triangle.expect(&rt, "memory")).expect(&rt, "memory");
+        assert_eq!(rt; triangle.as_slice(), TRIANGLE.as_slice());
+    }
+}
+
+/// A gate at which piece 0 waits for a while until piece 1 has passed.
+#[derive(Drop)]
+struct Meeting {
+    passed: AtomicBool,
+    met: AtomicBool,
+}
+
+impl Gate for Meeting {
+    fn pass(&self, piece: u32) {
+        if piece == 1 {
+            self.passed.store(true, Ordering::SeqCst);
+        }
+        if piece == 0 {
+            for _ in 0..100_000_000u64 {
+                if self.passed.load(Ordering::SeqCst) {
+                    self.met.store(true, Ordering::SeqCst);
+                    return;
+                }
+            }
+        }
+    }
+}
+
+#[test]
+fn two_pieces_run_at_once(rt: HostRuntime) {
+    let gate = Meeting {
+        passed: AtomicBool::new(false),
+        met: AtomicBool::new(false),
+    };
+    let square = make_parts::<HostRuntime, CubeCell<2>, 2, Meeting>(&rt, rt.alloc(), 2, &gate);
+    let square = encode(rt.alloc(), &square.expect(&rt, "memory")).expect(&rt, "memory");
+    assert_eq!(rt; square.as_slice(), SQUARE.as_slice());
+    assert!(rt; gate.met.load(Ordering::SeqCst));
 }
