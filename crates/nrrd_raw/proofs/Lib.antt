@@ -13,6 +13,7 @@ pub mod ReadLaws
 pub mod ReadingLaws
 pub mod SampleLaws
 pub mod SizeLaws
+pub mod SliceLaws
 pub mod StatedLaws
 pub mod TakenLaws
 pub mod WholeLaws

@@ -1,5 +1,6 @@
 -- When a fault may be answered.
-use Rattle.std.specs.Prelude.{ℕ, Bool, true, false, Option, Some, None}
+use Rattle.std.specs.Prelude.{ℕ, Bool, true, false, Option, Some, None, Result, IfErr}
+use Rattle.iso_base.specs.Shelves.{IsFairBlame}
 use Rattle.nrrd_raw.specs.declared.faults.GridFault.{GridFault}
 use Rattle.nrrd_raw.specs.declared.faults.GridFault.TheVariants.{TooLarge, DataShort, Trailing, Shelf, Memory}
 
@@ -7,6 +8,10 @@ use Rattle.nrrd_raw.specs.declared.faults.GridFault.TheVariants.{TooLarge, DataS
 abbrev pub blame_of : GridFault → Option ℕ
 blame_of (Shelf count) = Some count
 blame_of fault = None
+
+-- a refusal blames the shelf only where its count of faults rose, and with the count after the call
+abbrev pub BlamesFairly : {S T : Type 0} → (S → ℕ) → S → S → Result T GridFault → Type 0
+BlamesFairly faults old new result = IfErr result (λ fault. IsFairBlame (faults old) (faults new) (blame_of fault))
 
 -- a cause that a header may have, or the shelf is blamed
 abbrev pub is_header_fault : GridFault → Bool

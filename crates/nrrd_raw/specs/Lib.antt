@@ -10,3 +10,4 @@ pub mod Shapes
 pub mod States
 pub mod Taken
 pub mod Undecided
+pub mod Slices

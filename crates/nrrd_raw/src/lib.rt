@@ -21,3 +21,4 @@ pub use iso_formats::Field;
 pub use reading::{read_grid, read_header};
 pub use samples::grids::Grid;
 pub use samples::reading::read_samples;
+pub use samples::slices::SliceReader;

@@ -1,9 +1,9 @@
 //! Bytes from a shelf.
 
 ghost use Rattle.std.specs.Prelude.{◌≡◌, ◌≤◌, length, IsOk, IfOk, IfErr, IsSome};
-ghost use Rattle.nrrd_raw.specs.GridFaultWords.{blame_of};
+ghost use Rattle.nrrd_raw.specs.GridFaultWords.{BlamesFairly, blame_of};
 ghost use Rattle.std.specs.Io.KnownBytes.{Keeps};
-ghost use Rattle.iso_base.specs.Shelves.{IsSameShelf, IsFairBlame, TakesAtMost};
+ghost use Rattle.iso_base.specs.Shelves.{IsSameShelf, TakesAtMost};
 ghost use Rattle.nrrd_raw.specs.Undecided.{BlamesBefore};
 ghost use Rattle.nrrd_raw.specs.Taken.{FillsUp, TakesByte};
 
@@ -13,7 +13,7 @@ use iso_base::Shelf;
 /// Takes bytes until `buf` is full or the file ends, and says how many came.
 pub(crate) fn fill<S: Shelf>(shelf: &mut S, buf: &mut [u8]) -> Result<usize, GridFault>
     ensures shelf { IsSameShelf S.faults S.files S.sound shelf.old shelf.new }
-    ensures blames { IfErr result (λ fault. IsFairBlame (S.faults shelf.old) (S.faults shelf.new) (blame_of fault)) }
+    ensures blames { BlamesFairly S.faults shelf.old shelf.new result }
     ensures sound { S.sound shelf.old → IsOk result }
     ensures causes { IfErr result (λ fault. IsSome (blame_of fault)) }
     ensures filled { IfOk result (FillsUp (S.rest shelf.old) (S.rest shelf.new) buf.new) }
@@ -34,7 +34,7 @@ pub(crate) fn fill<S: Shelf>(shelf: &mut S, buf: &mut [u8]) -> Result<usize, Gri
 /// Takes one byte, where the file has one more.
 pub(crate) fn take_byte<S: Shelf>(shelf: &mut S) -> Result<Option<u8>, GridFault>
     ensures shelf { IsSameShelf S.faults S.files S.sound shelf.old shelf.new }
-    ensures blames { IfErr result (λ fault. IsFairBlame (S.faults shelf.old) (S.faults shelf.new) (blame_of fault)) }
+    ensures blames { BlamesFairly S.faults shelf.old shelf.new result }
     ensures sound { S.sound shelf.old → IsOk result }
     ensures causes { IfErr result (λ fault. IsSome (blame_of fault)) }
     ensures byte { IfOk result (TakesByte (S.rest shelf.old) (S.rest shelf.new)) }

@@ -5,9 +5,9 @@ ghost use Rattle.iso_model.specs.Values.{IsRegularGrid};
 ghost use Rattle.iso_formats.specs.GridFile.{IsRegularHeader, SpellsGrid};
 ghost use Rattle.iso_formats.specs.GridFaults.{HasGridFault, HasHeaderFault};
 ghost use Rattle.std.specs.Io.KnownBytes.{IsAtEnd};
-ghost use Rattle.iso_base.specs.Shelves.{IsSameShelf, IsFairBlame, TakesAtMost};
+ghost use Rattle.iso_base.specs.Shelves.{IsSameShelf, TakesAtMost};
 ghost use Rattle.nrrd_raw.specs.FaultCauses.{NamesCause};
-ghost use Rattle.nrrd_raw.specs.GridFaultWords.{blame_of, is_header_fault};
+ghost use Rattle.nrrd_raw.specs.GridFaultWords.{BlamesFairly, blame_of, is_header_fault};
 ghost use Rattle.nrrd_raw.specs.Headers.{HeaderIsRead};
 ghost use Rattle.nrrd_raw.specs.Undecided.{TakesSuch, BlamesWhile, IsOpenHeader, EndsOpenHeader};
 
@@ -25,7 +25,7 @@ use std::alloc::Global;
 /// behind its end. Takes no memory.
 pub fn read_header<S: Shelf>(shelf: &mut S) -> Result<Header, GridFault>
     ensures shelf { IsSameShelf S.faults S.files S.sound shelf.old shelf.new }
-    ensures blames { IfErr result (λ fault. IsFairBlame (S.faults shelf.old) (S.faults shelf.new) (blame_of fault)) }
+    ensures blames { BlamesFairly S.faults shelf.old shelf.new result }
     ensures sound { S.sound shelf.old → IfErr result (λ fault. IsNone (blame_of fault)) }
     ensures causes { IfErr result (λ fault. IsTrue (is_header_fault fault)) }
     ensures taken { TakesAtMost 65536 (S.rest shelf.old) (S.rest shelf.new) }
@@ -43,7 +43,7 @@ pub fn read_header<S: Shelf>(shelf: &mut S) -> Result<Header, GridFault>
 /// Reads a whole grid file that was begun: its header, and the samples behind it.
 pub fn read_grid<S: Shelf>(alloc: Global, shelf: &mut S) -> Result<Grid, GridFault>
     ensures shelf { IsSameShelf S.faults S.files S.sound shelf.old shelf.new }
-    ensures blames { IfErr result (λ fault. IsFairBlame (S.faults shelf.old) (S.faults shelf.new) (blame_of fault)) }
+    ensures blames { BlamesFairly S.faults shelf.old shelf.new result }
     ensures sound { S.sound shelf.old → IfErr result (λ fault. IsNone (blame_of fault)) }
     ensures spelled { IfSome (S.rest shelf.old) (λ bytes. IfOk result (SpellsGrid bytes)) }
     ensures cause { NamesCause HasGridFault (S.rest shelf.old) result }

@@ -3,3 +3,4 @@
 mod decode;
 pub(crate) mod grids;
 pub(crate) mod reading;
+pub(crate) mod slices;

@@ -1,6 +1,6 @@
 //! Files, and what they give.
 
-use crate::{Field, Grid, GridFault, Header, read_grid, read_header, read_samples};
+use crate::{Field, Grid, GridFault, Header, SliceReader, read_grid, read_header, read_samples};
 use iso_base::{MemFile, MemShelf, Shelf};
 use std::alloc::{AllocError, Global};
 use std::process::Abort;
@@ -200,7 +200,7 @@ const SQUARE: &str = "NRRD0001\ntype: uint8\ndimension: 2\nsizes: 2 2\nencoding:
 
 #[test]
 fn no_call_follows_the_one_that_decides(rt: HostRuntime) -> Result<(), Fail> {
-    // What stands in the file behind the lines of the grid or alone, how many calls are made where each gives one byte, and the answer.
+    // Lines, what stands behind them, how many calls are made where each gives one byte, and the answer.
     let cases = [
         ("", "NR D0001\n", 3, Some(GridFault::Magic)),
         ("", "NRRD0006\n", 8, Some(GridFault::Magic)),
@@ -432,6 +432,95 @@ fn samples_are_read_behind_a_header(rt: HostRuntime) -> Result<(), Fail> {
     assert_eq!(rt; grid.dims, 2);
     assert_eq!(rt; grid.sizes, [1, 3, 1, 1]);
     assert_eq!(rt; grid.samples.as_slice(), [0, 127, -128].as_slice());
+    Ok(())
+}
+
+#[test]
+fn slices_are_given_up_to_the_end_of_the_file(rt: HostRuntime) -> Result<(), Fail> {
+    let shorts = "NRRD0001\ntype: ushort\nendian: big\ndimension: 2\nsizes: 1 3\nencoding: raw\n\n";
+    let cube = "NRRD0001\ntype: uint8\ndimension: 3\nsizes: 2 1 1\nencoding: raw\n\n";
+    // Lines, the bytes behind them, how many slices are given and their samples, and the refusal, or none where the file
+    // ends.
+    let cases: [(&str, &str, usize, &[i64], Option<GridFault>); 12] = [
+        (SQUARE, "", 0, &[], Some(GridFault::DataShort(0))),
+        (SQUARE, "a", 0, &[], Some(GridFault::DataShort(1))),
+        (SQUARE, "ab", 1, &[97, 98], Some(GridFault::DataShort(2))),
+        (SQUARE, "abc", 1, &[97, 98], Some(GridFault::DataShort(3))),
+        (SQUARE, "abcd", 2, &[97, 98, 99, 100], None),
+        (
+            SQUARE,
+            "abcde",
+            2,
+            &[97, 98, 99, 100],
+            Some(GridFault::Trailing),
+        ),
+        (
+            shorts,
+            "abcde",
+            2,
+            &[24930, 25444],
+            Some(GridFault::DataShort(5)),
+        ),
+        (shorts, "abcdef", 3, &[24930, 25444, 25958], None),
+        (
+            shorts,
+            "abcdefg",
+            3,
+            &[24930, 25444, 25958],
+            Some(GridFault::Trailing),
+        ),
+        (cube, "a", 0, &[], Some(GridFault::DataShort(1))),
+        (cube, "ab", 1, &[97, 98], None),
+        (cube, "abc", 1, &[97, 98], Some(GridFault::Trailing)),
+    ];
+    for (lines, data, count, samples, refusal) in cases {
+        let text = format!(in rt.alloc(); "{lines}{data}")?;
+        for step in STEPS {
+            let mut shelf = shelf_of(rt.alloc(), text.as_bytes(), step)?;
+            let mut reader = SliceReader::new(&read_header(&mut shelf)?)?;
+            let mut slice = Vec::new(rt.alloc());
+            let mut all = Vec::new(rt.alloc());
+            for _ in 0..count {
+                assert_eq!(rt;
+                    reader.step(rt.alloc(), &mut shelf, &mut slice),
+                    Ok(true),
+                    "{text}"
+                );
+                all.extend_from_slice(slice.as_slice())?;
+            }
+            assert_eq!(rt; all.as_slice(), samples, "{text}");
+            let end = match refusal {
+                Some(fault) => Err(fault),
+                None => Ok(false),
+            };
+            assert_eq!(rt;
+                reader.step(rt.alloc(), &mut shelf, &mut slice),
+                end,
+                "{text}"
+            );
+            assert_eq!(rt;
+                reader.step(rt.alloc(), &mut shelf, &mut slice),
+                Ok(false),
+                "{text}"
+            );
+        }
+    }
+    Ok(())
+}
+
+#[test]
+fn a_reader_of_too_many_samples_is_refused(rt: HostRuntime) -> Result<(), Fail> {
+    let header = Header {
+        dims: 2,
+        sizes: [16384, 16384, 1, 1],
+        width: 1,
+        signed: false,
+        big: false,
+    };
+    match SliceReader::new(&header) {
+        Ok(_) => assert!(rt; false),
+        Err(fault) => assert_eq!(rt; fault, GridFault::TooLarge(268435456)),
+    }
     Ok(())
 }
 

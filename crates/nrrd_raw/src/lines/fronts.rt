@@ -2,12 +2,12 @@
 
 ghost use Rattle.std.specs.Prelude.{◌≡◌, ℕ, ◌+◌, ◌<◌, ◌≤◌, ◌==◌, [], length, IfErr, OnOk, IsTrue, IsNone};
 ghost use Rattle.std.specs.Io.KnownBytes.{Consumes};
-ghost use Rattle.iso_base.specs.Shelves.{IsSameShelf, IsFairBlame, TakesAtMost};
+ghost use Rattle.iso_base.specs.Shelves.{IsSameShelf, TakesAtMost};
 ghost use Rattle.arrayvec.specs.ArrayVec.{array_vec_len};
 ghost use Rattle.iso_formats.specs.GridFaults.{HasHeaderFault};
 ghost use Rattle.nrrd_raw.specs.FaultCauses.{NamesCause};
 ghost use Rattle.nrrd_raw.specs.LineEnds as ends;
-ghost use Rattle.nrrd_raw.specs.GridFaultWords.{is_header_fault, blame_of};
+ghost use Rattle.nrrd_raw.specs.GridFaultWords.{BlamesFairly, is_header_fault, blame_of};
 ghost use Rattle.nrrd_raw.specs.Undecided.{TakesSuch, BlamesWhile, BlamesUntouched, IsOpenHeader, EndsOpenHeader};
 ghost use Rattle.nrrd_raw.specs.HeaderFronts.{HasFront, IsFront, IsNoBeginning, IsUnfit, TakesFitting, FitsFirst};
 
@@ -32,7 +32,7 @@ pub(crate) fn take_front<S: Shelf>(
 ) -> Result<(), GridFault>
     requires { front.old.items ≡ [] }
     ensures shelf { IsSameShelf S.faults S.files S.sound shelf.old shelf.new }
-    ensures blames { IfErr result (λ fault. IsFairBlame (S.faults shelf.old) (S.faults shelf.new) (blame_of fault)) }
+    ensures blames { BlamesFairly S.faults shelf.old shelf.new result }
     ensures sound { S.sound shelf.old → IfErr result (λ fault. IsNone (blame_of fault)) }
     ensures causes { IfErr result (λ fault. IsTrue (is_header_fault fault)) }
     ensures taken { TakesAtMost 65536 (S.rest shelf.old) (S.rest shelf.new) }
@@ -76,7 +76,7 @@ fn take_first_line<S: Shelf>(
 ) -> Result<(), GridFault>
     requires { front.old.items ≡ [] }
     ensures shelf { IsSameShelf S.faults S.files S.sound shelf.old shelf.new }
-    ensures blames { IfErr result (λ fault. IsFairBlame (S.faults shelf.old) (S.faults shelf.new) (blame_of fault)) }
+    ensures blames { BlamesFairly S.faults shelf.old shelf.new result }
     ensures sound { S.sound shelf.old → IfErr result (λ fault. IsNone (blame_of fault)) }
     ensures causes { IfErr result (λ fault. IsTrue (is_header_fault fault)) }
     ensures taken { TakesAtMost 10 (S.rest shelf.old) (S.rest shelf.new) }
@@ -114,7 +114,7 @@ fn take_fitting<S: Shelf>(
     requires room { array_vec_len front.old < 65536 }
     requires some { 1 ≤ low }
     ensures shelf { IsSameShelf S.faults S.files S.sound shelf.old shelf.new }
-    ensures blames { IfErr result (λ fault. IsFairBlame (S.faults shelf.old) (S.faults shelf.new) (blame_of fault)) }
+    ensures blames { BlamesFairly S.faults shelf.old shelf.new result }
     ensures sound { S.sound shelf.old → IfErr result (λ fault. IsNone (blame_of fault)) }
     ensures causes { IfErr result (λ fault. IsTrue (is_header_fault fault)) }
     ensures taken { TakesAtMost 1 (S.rest shelf.old) (S.rest shelf.new) }

@@ -5,9 +5,9 @@ ghost use Rattle.iso_model.specs.Values.{IsRegularGrid, product};
 ghost use Rattle.iso_formats.specs.GridFile.{IsRegularHeader, SpellsSamples, sample_limit, samples_of};
 ghost use Rattle.iso_formats.specs.GridFaults.{HasSampleFault};
 ghost use Rattle.std.specs.Io.KnownBytes.{IsAtEnd, Keeps};
-ghost use Rattle.iso_base.specs.Shelves.{IsSameShelf, IsFairBlame, TakesAtMost};
+ghost use Rattle.iso_base.specs.Shelves.{IsSameShelf, TakesAtMost};
 ghost use Rattle.nrrd_raw.specs.FaultCauses.{ReadsSamples, ReadsMore, IsCutOff, IsTrailing, NamesCause, IsLarge, IsLargeCount, data_length};
-ghost use Rattle.nrrd_raw.specs.GridFaultWords.{blame_of, is_sample_fault, is_piece_fault, is_end_fault};
+ghost use Rattle.nrrd_raw.specs.GridFaultWords.{BlamesFairly, blame_of, is_sample_fault, is_piece_fault, is_end_fault};
 ghost use Rattle.nrrd_raw.specs.Shapes.{InRange};
 ghost use Rattle.nrrd_raw.specs.Undecided.{BlamesWhile, BlamesBefore, BlamesUntouched, IsOpenData};
 
@@ -20,7 +20,7 @@ use iso_base::Shelf;
 use std::alloc::Global;
 
 /// The bytes that are taken at a time, a number of whole samples of each width.
-const PIECE: usize = 1 << 16;
+pub(crate) const PIECE: usize = 1 << 16;
 
 /// Reads the samples that stand behind a header, up to the end of the file.
 pub fn read_samples<S: Shelf>(
@@ -30,7 +30,7 @@ pub fn read_samples<S: Shelf>(
 ) -> Result<Grid, GridFault>
     requires { IsRegularHeader header.now }
     ensures shelf { IsSameShelf S.faults S.files S.sound shelf.old shelf.new }
-    ensures blames { IfErr result (λ fault. IsFairBlame (S.faults shelf.old) (S.faults shelf.new) (blame_of fault)) }
+    ensures blames { BlamesFairly S.faults shelf.old shelf.new result }
     ensures sound { S.sound shelf.old → IfErr result (λ fault. IsNone (blame_of fault)) }
     ensures causes { IfErr result (λ fault. IsTrue (is_sample_fault fault)) }
     ensures large_alone { IsLarge header.now → result ≡ Err (GridFault.TooLarge (product header.now.sizes)) }
@@ -60,7 +60,7 @@ pub fn read_samples<S: Shelf>(
 }
 
 /// The product of the sizes.
-fn sample_count(header: &Header) -> u128
+pub(crate) fn sample_count(header: &Header) -> u128
     requires { IsRegularHeader header.now }
     ensures { result ≡ product header.now.sizes }
 {
@@ -69,7 +69,7 @@ fn sample_count(header: &Header) -> u128
 }
 
 /// Takes so many samples, piece by piece, in place of those in `samples`.
-fn take_samples<S: Shelf>(
+pub(crate) fn take_samples<S: Shelf>(
     shelf: &mut S,
     header: &Header,
     piece: &mut [u8; PIECE],
@@ -79,7 +79,7 @@ fn take_samples<S: Shelf>(
     requires regular { IsRegularHeader header.now }
     requires few { count ≤ 2 ^ 27 }
     ensures shelf { IsSameShelf S.faults S.files S.sound shelf.old shelf.new }
-    ensures blames { IfErr result (λ fault. IsFairBlame (S.faults shelf.old) (S.faults shelf.new) (blame_of fault)) }
+    ensures blames { BlamesFairly S.faults shelf.old shelf.new result }
     ensures sound { S.sound shelf.old → IfErr result (λ fault. IsNone (blame_of fault)) }
     ensures causes { IfErr result (λ fault. IsTrue (is_piece_fault fault)) }
     ensures taken { TakesAtMost (count * header.now.width) (S.rest shelf.old) (S.rest shelf.new) }
@@ -106,9 +106,9 @@ fn take_samples<S: Shelf>(
 }
 
 /// Sees that the file ends here.
-fn see_end<S: Shelf>(shelf: &mut S) -> Result<(), GridFault>
+pub(crate) fn see_end<S: Shelf>(shelf: &mut S) -> Result<(), GridFault>
     ensures shelf { IsSameShelf S.faults S.files S.sound shelf.old shelf.new }
-    ensures blames { IfErr result (λ fault. IsFairBlame (S.faults shelf.old) (S.faults shelf.new) (blame_of fault)) }
+    ensures blames { BlamesFairly S.faults shelf.old shelf.new result }
     ensures sound { S.sound shelf.old → IfErr result (λ fault. IsNone (blame_of fault)) }
     ensures causes { IfErr result (λ fault. IsTrue (is_end_fault fault)) }
     ensures taken { TakesAtMost 1 (S.rest shelf.old) (S.rest shelf.new) }
@@ -136,7 +136,7 @@ fn take_piece<S: Shelf>(
     requires room { vec_len into.old + more ≤ count }
     requires few { count ≤ 2 ^ 27 }
     ensures shelf { IsSameShelf S.faults S.files S.sound shelf.old shelf.new }
-    ensures blames { IfErr result (λ fault. IsFairBlame (S.faults shelf.old) (S.faults shelf.new) (blame_of fault)) }
+    ensures blames { BlamesFairly S.faults shelf.old shelf.new result }
     ensures sound { S.sound shelf.old → IfErr result (λ fault. IsNone (blame_of fault)) }
     ensures causes { IfErr result (λ fault. IsTrue (is_piece_fault fault)) }
     ensures taken { TakesAtMost (length piece.new) (S.rest shelf.old) (S.rest shelf.new) }
