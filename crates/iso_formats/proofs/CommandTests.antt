@@ -2,7 +2,9 @@
 use Rattle.std.specs.Prelude.{◌≡◌, ℕ, ℤ, pos, negsuc, false, List, [], ◌∷◌, ◌++◌, length, codes, IsFalse, drop, slice_index, ◌≤◌, ◌≤ℤ◌}
 use Rattle.std.specs.Str.Parse.{signed_digits_value}
 use Rattle.std.proofs.Common.{refl, ap, inl, inr, arith, subst, sym, ◌∙◌}
-use Rattle.std.proofs.lemmas.Bool.{false≢true}
+use Rattle.std.proofs.lemmas.Bool.{false≢true, true≢false}
+use Rattle.std.proofs.lemmas.Slice.Eq.{bytes_eq-Decides}
+use Rattle.lists.specs.Orders.{same_list}
 use Rattle.std.proofs.lemmas.List.Sums.{AllPass-from_list_all}
 use Rattle.iso_model.specs.declared.Kind.TheVariants.{Cube, Simplex, Pyramid}
 use Rattle.iso_formats.specs.Commands.{is_number, has_key_of, IsNumber, Say, IsWrongWord, Command, generate_command, check_command, extract_command}
@@ -67,14 +69,19 @@ right_demo = record {
 head_same : (x y : List ℕ) (xs ys : List (List ℕ)) → x ∷ xs ≡ y ∷ ys → x ≡ y
 head_same x y xs ys e = cc
 
+-- words that begin with one name are not for the command of another
+another : {own name : List ℕ} {more further : List (List ℕ)} → same_list own name ≡ false → own ∷ more ≡ name ∷ further → ⊥
+another {own = own} {name = name} {more = more} {further = further} apart e =
+    true≢false (sym ((bytes_eq-Decides own name).1 (head_same own name more further e)) ∙ apart)
+
 -- an isovalue with a leading zero
 abbrev padded_words : List (List ℕ)
 padded_words = codes "extract" ∷ codes "table=a" ∷ codes "grid=b" ∷ codes "iso=05" ∷ []
 
 padded_never : (more : List (List ℕ)) (c : Command) → Say (padded_words ++ more) c → ⊥
-padded_never more (generate_command kind d) s = let e = head_same _ _ _ _ s.are_for.named.1 in cc
-padded_never more (check_command table) s = let e = head_same _ _ _ _ s.are_for.named.1 in cc
-padded_never more (demo_command kind d size seed) s = let e = head_same _ _ _ _ s.are_for.named.1 in cc
+padded_never more (generate_command kind d) s = another refl s.are_for.named.1
+padded_never more (check_command table) s = another refl s.are_for.named.1
+padded_never more (demo_command kind d size seed) s = another refl s.are_for.named.1
 padded_never more (extract_command table grid iso) s =
     let e = head_same _ _ _ _ s.iso_is.1 in
     false≢true (sym (subst (λ (t : List ℕ). is_number t ≡ false) e refl) ∙ s.iso_is.2.0)
@@ -104,9 +111,9 @@ same_number : (a b : ℕ) → pos a ≡ pos b → a ≡ b
 same_number a b e = cc
 
 large_never : (more : List (List ℕ)) (c : Command) → Say (large_words ++ more) c → ⊥
-large_never more (generate_command kind d) s = let e = head_same _ _ _ _ s.are_for.named.1 in cc
-large_never more (check_command table) s = let e = head_same _ _ _ _ s.are_for.named.1 in cc
-large_never more (extract_command table grid iso) s = let e = head_same _ _ _ _ s.are_for.named.1 in cc
+large_never more (generate_command kind d) s = another refl s.are_for.named.1
+large_never more (check_command table) s = another refl s.are_for.named.1
+large_never more (extract_command table grid iso) s = another refl s.are_for.named.1
 large_never more (demo_command Cube d size seed) s = absurd (omega (arith, ap (λ (l : List ℕ). slice_index l 0) (head_same _ _ _ _ s.kind_is)))
 large_never more (demo_command Simplex d size seed) s = absurd (omega (arith, ap (λ (l : List ℕ). slice_index l 0) (head_same _ _ _ _ s.kind_is)))
 large_never more (demo_command Pyramid d size seed) s =
@@ -153,9 +160,9 @@ abbrev early_words : List (List ℕ)
 early_words = codes "extract" ∷ codes "table=a" ∷ codes "grid=b" ∷ []
 
 early_never : (c : Command) → Say early_words c → ⊥
-early_never (generate_command kind d) s = let e = head_same _ _ _ _ s.are_for.named.1 in cc
-early_never (check_command table) s = let e = head_same _ _ _ _ s.are_for.named.1 in cc
-early_never (demo_command kind d size seed) s = let e = head_same _ _ _ _ s.are_for.named.1 in cc
+early_never (generate_command kind d) s = another refl s.are_for.named.1
+early_never (check_command table) s = another refl s.are_for.named.1
+early_never (demo_command kind d size seed) s = another refl s.are_for.named.1
 early_never (extract_command table grid iso) s = absurd (omega (arith, ap length s.iso_is.1))
 
 early_end : IsWrongWord each_command early_words 4
@@ -170,9 +177,9 @@ abbrev great_words : List (List ℕ)
 great_words = codes "extract" ∷ codes "table=a" ∷ codes "grid=b" ∷ codes "iso=1099511627777" ∷ []
 
 great_never : (more : List (List ℕ)) (c : Command) → Say (great_words ++ more) c → ⊥
-great_never more (generate_command kind d) s = let e = head_same _ _ _ _ s.are_for.named.1 in cc
-great_never more (check_command table) s = let e = head_same _ _ _ _ s.are_for.named.1 in cc
-great_never more (demo_command kind d size seed) s = let e = head_same _ _ _ _ s.are_for.named.1 in cc
+great_never more (generate_command kind d) s = another refl s.are_for.named.1
+great_never more (check_command table) s = another refl s.are_for.named.1
+great_never more (demo_command kind d size seed) s = another refl s.are_for.named.1
 great_never more (extract_command table grid iso) s =
     let v = ap (signed_digits_value 10) (head_same _ _ _ _ s.iso_is.1) ∙ s.iso_is.2.1 in
     let l = subst (λ (n : ℤ). n ≤ℤ pos iso_limit) (sym v) s.iso_to in
@@ -190,9 +197,9 @@ abbrev flat_words : List (List ℕ)
 flat_words = codes "generate" ∷ codes "dim=2" ∷ codes "kind=pyramid" ∷ []
 
 flat_never : (more : List (List ℕ)) (c : Command) → Say (flat_words ++ more) c → ⊥
-flat_never more (check_command table) s = let e = head_same _ _ _ _ s.are_for.named.1 in cc
-flat_never more (extract_command table grid iso) s = let e = head_same _ _ _ _ s.are_for.named.1 in cc
-flat_never more (demo_command kind d size seed) s = let e = head_same _ _ _ _ s.are_for.named.1 in cc
+flat_never more (check_command table) s = another refl s.are_for.named.1
+flat_never more (extract_command table grid iso) s = another refl s.are_for.named.1
+flat_never more (demo_command kind d size seed) s = another refl s.are_for.named.1
 flat_never more (generate_command Cube d) s = absurd (omega (arith, ap (λ (l : List ℕ). slice_index l 0) (head_same _ _ _ _ s.kind_is)))
 flat_never more (generate_command Simplex d) s = absurd (omega (arith, ap (λ (l : List ℕ). slice_index l 0) (head_same _ _ _ _ s.kind_is)))
 flat_never more (generate_command Pyramid d) s =

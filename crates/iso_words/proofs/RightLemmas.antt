@@ -1,5 +1,5 @@
 -- What a right list of words has, by the name of its command; and a list that gave right values so far goes on to a right one.
-use Rattle.std.proofs.Common.{◌≡◌, ℕ, Bool, true, false, ◌||◌, List, [], ◌∷◌, ◌++◌, map, Option, Some, refl, sym, ◌∙◌, ap, subst, Bor, w64, of_z, to_z, to_z-of_z}
+use Rattle.std.proofs.Common.{◌≡◌, ℕ, Bool, true, false, ◌||◌, List, [], ◌∷◌, ◌++◌, map, Option, Some, refl, sym, ◌∙◌, ap, subst, Bor}
 use Rattle.std.specs.Prelude.{ℤ, codes, IsTrue}
 use Rattle.std.specs.List.{AllByRecursion, AllPass, list_all, list_any}
 use Rattle.std.specs.Option.{option_copied}
@@ -16,8 +16,9 @@ use Rattle.iso_words.specs.declared.keys.CommandName.TheVariants.{Generate, Chec
 use Rattle.iso_words.specs.declared.given.Given.{Given}
 use Rattle.iso_words.specs.Built.{is_built}
 use Rattle.iso_words.specs.Keys.{key_text, name_text, own_keys, keys_of, has_key}
-use Rattle.iso_words.specs.Given.{IsKind, IsDimension, IsFile, IsIsovalue, Fit, values_of, Stood, Gave}
-use Rattle.iso_words.proofs.NumberLemmas.{isovalue_fits}
+use Rattle.iso_words.specs.Given.{IsKind, IsDimension, IsFile, IsIsovalue, Fit, values_of, Stood, Gave, WereGiven, IsWhole, SayNamed, name_of}
+use Rattle.iso_words.specs.declared.Command.{Command}
+use Rattle.iso_words.specs.declared.Command.TheVariants.{Generate as generate, Check as check, Extract as extract}
 use Rattle.iso_words.proofs.KindLemmas.{HasDimension-limits}
 use Rattle.iso_words.proofs.KeyLemmas.{key_text-one, name_text-one}
 use Rattle.lists.specs.Orders.{same_list}
@@ -139,35 +140,29 @@ SayExtract-given further table grid iso keyed t g i = record {
   iso_to = i.2.2;
 }
 
--- what `command` gives
-pub SayGenerate-from_gave : (name : CommandName) (further : List (List ℕ)) (given : Given) (kind : CellKind) (d : ℕ) → name ≡ Generate
-    → given.kind ≡ Some kind → given.dim ≡ Some d → Gave name further given → SayGenerate (name_text name ∷ further) kind d
-SayGenerate-from_gave name further given kind d n k i = subst (λ (m : CommandName). Gave m further given → SayGenerate (name_text m ∷ further) kind d) (sym n) (λ g.
-    SayGenerate-given further kind d g.keyed
-    (subst (λ (o : Option CellKind). Stood IsKind o (values_of (codes "kind") further)) k (g.stood Kind))
-    (subst (λ (o : Option ℕ). Stood IsDimension o (values_of (codes "dim") further)) i (g.stood Dim))
-    (subst (λ (o : Option ℕ). Fit (Some kind) o) i (subst (λ (o : Option CellKind). Fit o given.dim) k g.fits)))
-
+-- what is said, where the values of a command were given
 file_stood : (key : List ℕ) (further : List (List ℕ)) (o : Option (Bor (List ℕ))) (name : Bor (List ℕ)) → o ≡ Some name
     → Stood IsFile (option_copied o) (values_of key further) → Stood IsFile (Some name.now) (values_of key further)
 file_stood key further o name e s = subst (λ (o : Option (Bor (List ℕ))). Stood IsFile (option_copied o) (values_of key further)) e s
 
-pub SayCheck-from_gave : (name : CommandName) (further : List (List ℕ)) (given : Given) (table : Bor (List ℕ)) → name ≡ Check → given.table ≡ Some table
-    → Gave name further given → SayCheck (name_text name ∷ further) table.now
-SayCheck-from_gave name further given table n t = subst (λ (m : CommandName). Gave m further given → SayCheck (name_text m ∷ further) table.now) (sym n) (λ g.
-    SayCheck-given further table.now g.keyed (file_stood (codes "table") further given.table table t (g.stood Table)))
+value_stood : {V : Type 0} (P : List ℕ → V → Type 0) (values : List (List ℕ)) (o : Option V) (v : V) → o ≡ Some v → Stood P o values → Stood P (Some v) values
+value_stood P values o v e s = subst (λ (o : Option _). Stood P o values) e s
 
-pub SayExtract-from_gave : (name : CommandName) (further : List (List ℕ)) (given : Given) (table grid : Bor (List ℕ)) (iso : ℤ) → name ≡ Extract
-    → given.table ≡ Some table → given.grid ≡ Some grid → given.iso ≡ Some iso
-    → Gave name further given → SayExtract (name_text name ∷ further) table.now grid.now (to_z w64 (of_z w64 iso))
-SayExtract-from_gave name further given table grid iso n t r i =
-    subst (λ (m : CommandName). Gave m further given → SayExtract (name_text m ∷ further) table.now grid.now (to_z w64 (of_z w64 iso))) (sym n) (λ g.
-    let iso' = subst (λ (o : Option ℤ). Stood IsIsovalue o (values_of (codes "iso") further)) i (g.stood Iso) in
-    let same : iso ≡ to_z w64 (of_z w64 iso) = sym (to_z-of_z (isovalue_fits iso iso'.2.1 iso'.2.2)) in
-    subst (λ (z : ℤ). SayExtract (codes "extract" ∷ further) table.now grid.now z) same (SayExtract-given further table.now grid.now iso g.keyed
-    (file_stood (codes "table") further given.table table t (g.stood Table))
-    (file_stood (codes "grid") further given.grid grid r (g.stood Grid))
-    iso'))
+say_given : (command : Command) (further : List (List ℕ)) (given : Given) → WereGiven given command → Gave (name_of command) further given
+    → SayNamed (name_of command) further command
+say_given (generate kind dim) further given w g =
+    SayGenerate-given further kind dim g.keyed (value_stood IsKind _ given.kind kind w.0 (g.stood Kind))
+    (value_stood IsDimension _ given.dim dim w.1 (g.stood Dim))
+    (subst (λ (o : Option ℕ). Fit (Some kind) o) w.1 (subst (λ (o : Option CellKind). Fit o given.dim) w.0 g.fits))
+say_given (check table) further given w g = SayCheck-given further table.now g.keyed (file_stood (codes "table") further given.table table w (g.stood Table))
+say_given (extract table grid iso) further given w g =
+    SayExtract-given further table.now grid.now iso g.keyed (file_stood (codes "table") further given.table table w.0 (g.stood Table))
+    (file_stood (codes "grid") further given.grid grid w.1 (g.stood Grid)) (value_stood IsIsovalue _ given.iso iso w.2 (g.stood Iso))
+
+pub Say-whole : (name : CommandName) (command : Command) (further : List (List ℕ)) (given : Given) → IsWhole name given command → Gave name further given
+    → SayNamed name further command
+Say-whole name command further given whole =
+    subst (λ (n : CommandName). Gave n further given → SayNamed n further command) (sym whole.0) (say_given command further given whole.1)
 
 -- ---- words that begin no right list
 

@@ -9,6 +9,8 @@ use Rattle.iso_model.specs.Cells.{HasDimension}
 use Rattle.iso_formats.specs.Commands.{BeginRight, Say, value_for, has_key_of, kind_name, IsNumber, iso_limit}
 use Rattle.iso_words.specs.Built.{asked, is_built}
 use Rattle.iso_words.specs.declared.Command.{Command}
+use Rattle.iso_words.specs.declared.Command.TheVariants.{Generate as generate, Check as check, Extract as extract}
+use Rattle.iso_words.specs.declared.keys.CommandName.TheVariants.{Generate, Check, Extract}
 use Rattle.iso_words.specs.Keys.{key_text, own_keys, keys_of, name_text}
 use Rattle.iso_words.specs.declared.keys.Key.{Key}
 use Rattle.iso_words.specs.declared.keys.Key.TheVariants.{Kind, Dim, Table, Grid, Iso}
@@ -80,6 +82,22 @@ EachGiving name given P = (further : List (List ℕ)) → Gave name further give
 -- this holds of each such list with one more word at its end
 abbrev pub EachLonger : CommandName → Given → List ℕ → (List (List ℕ) → Type 0) → Type 0
 EachLonger name given word P = EachGiving name given (λ further. P (further ++ word ∷ []))
+
+-- the name of a command
+abbrev pub name_of : Command → CommandName
+name_of (generate kind dim) = Generate
+name_of (check table) = Check
+name_of (extract table grid iso) = Extract
+
+-- the values of a command were given
+abbrev pub WereGiven : Given → Command → Type 0
+WereGiven given (generate kind dim) = (given.kind ≡ Some kind) × (given.dim ≡ Some dim)
+WereGiven given (check table) = given.table ≡ Some table
+WereGiven given (extract table grid iso) = (given.table ≡ Some table) × (given.grid ≡ Some grid) × (given.iso ≡ Some iso)
+
+-- the command of this name, with the values that were given
+abbrev pub IsWhole : CommandName → Given → Command → Type 0
+IsWhole name given command = (name ≡ name_of command) × WereGiven given command
 
 -- the command's name and these words say the command
 abbrev pub SayNamed : CommandName → List (List ℕ) → Command → Type 0

@@ -19,7 +19,7 @@ pub(crate) struct Given<'a> {
 }
 
 impl<'a> Given<'a> {
-    ghost use Rattle.iso_words.specs.Given.{BeginsNone, EachGiving, EachLonger, Gave, Lacks, SayNamed, given_count};
+    ghost use Rattle.iso_words.specs.Given.{BeginsNone, EachLonger, Gave, IsWhole, Lacks, given_count};
 
     // Nothing yet.
     pub(crate) fn nothing() -> Given<'a>
@@ -59,7 +59,7 @@ impl<'a> Given<'a> {
 
     // The command, if no key of it is missing.
     pub(crate) fn command(self, name: CommandName) -> Option<Command<'a>>
-        ensures said { EachGiving name self.entry (λ further. IfSome result (SayNamed name further)) }
+        ensures said { IfSome result (IsWhole name self.entry) }
         ensures early { IfNone result (Lacks name self.entry) }
     {
         match name {

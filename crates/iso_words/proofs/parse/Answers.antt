@@ -6,6 +6,7 @@ use Rattle.iso_words.specs.Given.{Gave}
 use Rattle.iso_words.proofs.WrongLemmas.{Say-one, asked_built, few_given, IsWrongWord-one, length-texts, never_said, texts-first, texts-more}
 use Rattle.iso_words.proofs.WrongLemmas.{texts-end, wrong_empty, wrong_first, wrong_further, wrong_early}
 use Rattle.iso_words.proofs.MissingLemmas.{Lacks-wrong}
+use Rattle.iso_words.proofs.RightLemmas.{Say-whole}
 use Rattle.iso_words.proofs.parse.Goals as goal
 
 pub returns-in_default-clause-place : goal.returns-in_default-clause-place
@@ -70,7 +71,7 @@ returns-in-Some-command-clause-said c =
     let gave = subst (λ (ws : List (List ℕ)). Gave name ws c.loop-i.given) (texts-end further c.loop-i.i (omega arith)) c.loop-i.invariant.gave in
     subst (λ (ws : List (List ℕ)). Say ws (asked c.in-Some-command.command))
     (sym (texts-first c.args.words.now further c.in-Some.first.now name c.in-Some.ensures.cases.0 (sym c.as_str.ensures.value ∙ c.in-Some-named.ensures)))
-    (c.in-Some-command.ensures.said (texts further) gave)
+    (Say-whole name c.in-Some-command.command (texts further) c.loop-i.given c.in-Some-command.ensures.said gave)
 
 pub returns-in-Some-command-clause-exact : goal.returns-in-Some-command-clause-exact
 returns-in-Some-command-clause-exact c = λ command b s.
