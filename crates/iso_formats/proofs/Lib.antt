@@ -10,3 +10,6 @@ pub mod LineLaws
 pub mod HeaderFaultLaws
 pub mod SurfaceTests
 pub mod LineTests
+pub mod MeshFileLaws
+pub mod MeshFileRead
+pub mod MeshFileTests

@@ -6,3 +6,4 @@ pub mod GridFile
 pub mod GridFaults
 pub mod Commands
 pub mod Demo
+pub mod MeshFile
