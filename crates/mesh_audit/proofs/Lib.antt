@@ -1,2 +1,3 @@
 pub mod FindingLaws
 pub mod FindingTests
+pub mod GluedFaces
