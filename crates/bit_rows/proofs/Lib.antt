@@ -1,0 +1,4 @@
+pub mod WordBits
+pub mod RowBits
+pub mod WordSets
+pub mod SetPlaces

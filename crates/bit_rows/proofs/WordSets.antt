@@ -1,0 +1,65 @@
+-- Words and rows of bits that tell something of samples.
+use Rattle.std.proofs.Common.{ap, arith, inl, inr, sym, ◌∙◌}
+use Rattle.std.proofs.lemmas.Bool.{cases_lt, cases_eq, eq-eqb, ne_eqb, false≢true}
+use Rattle.std.proofs.lemmas.Nat.Bits.{bit_at_ones, bit_at_ones_above}
+use Rattle.std.specs.Prelude.{Bool, List, None, false, true, length, min, nat_lt, slice_index_or, ℤ, pos, ℕ, ◌&&◌, ◌||◌, ◌*◌, ◌+◌, ◌-◌, ◌<◌, ◌≤◌, ◌==◌, ◌^◌, ◌≡◌, ◌≢◌, ◌⊎◌}
+use Rattle.lists.specs.Bits.{is_set}
+use Rattle.lists.proofs.Tests.{and_true, of_lt, lt_of, or_false, same_tests}
+use Rattle.bit_rows.proofs.RowBits.{no_bits}
+use Rattle.bit_rows.specs.Rows.{IsWordOf}
+use Rattle.bit_rows.specs.SampleRows.{is_clear_at}
+
+-- a word of the bits below a place: those that pass among the samples from `first` on
+abbrev pub IsWordBelow : (ℤ → Bool) → List ℤ → ℕ → ℕ → ℕ → Type 0
+IsWordBelow passes samples first place word = (k : ℕ) → k < 64 → is_set word k ≡ (nat_lt k place && passes (slice_index_or samples (first + k) (pos 0)))
+
+not_below : (k p : ℕ) → p ≤ k → nat_lt k p ≡ false
+not_below k p h = same_tests (nat_lt k p) false (λ e. let lt = lt_of k p e in absurd (omega arith)) (λ e. absurd (false≢true e))
+
+pub none_below : (passes : ℤ → Bool) (samples : List ℤ) (first : ℕ) → IsWordBelow passes samples first 0 0
+none_below passes samples first k h = no_bits k ∙ sym (ap (λ t. t && passes (slice_index_or samples (first + k) (pos 0))) (not_below k 0 (omega arith)))
+
+below_unless : (k p : ℕ) → k < p + 1 → k ≢ p → k < p
+below_unless k p h e = elim (cases_lt k p) [ inl lt ↦ lt | inr ge ↦ absurd (e (omega arith)) ]
+
+-- one place more
+pub one_more_place : (passes : ℤ → Bool) (samples : List ℤ) (first place word after : ℕ) (test : Bool)
+    → passes (slice_index_or samples (first + place) (pos 0)) ≡ test
+    → IsWordBelow passes samples first place word
+    → ((k : ℕ) → k < 64 → is_set after k ≡ (is_set word k || ((k == place) && test)))
+    → IsWordBelow passes samples first (place + 1) after
+one_more_place passes samples first place word after test told before added k low =
+    added k low
+    ∙ ap (λ t. t || ((k == place) && test)) (before k low)
+    ∙ ap (λ t. (nat_lt k place && passes (slice_index_or samples (first + k) (pos 0))) || ((k == place) && t)) (sym told)
+    ∙ by_case (cases_eq k place)
+  where
+    there : ℕ → Bool
+    there j = passes (slice_index_or samples (first + j) (pos 0))
+
+    by_case : (k ≡ place) ⊎ (k ≢ place) → ((nat_lt k place && there k) || ((k == place) && there place)) ≡ (nat_lt k (place + 1) && there k)
+    by_case (inl e) =
+        let before_it : nat_lt k place ≡ false = not_below k place (omega (arith, e)) in
+        let within : nat_lt k (place + 1) ≡ true = of_lt k (place + 1) (omega (arith, e)) in
+        ap (λ t. (t && there k) || ((k == place) && there place)) before_it
+        ∙ ap (λ t. t && there place) (eq-eqb k place e) ∙ ap there (sym e) ∙ sym (ap (λ t. t && there k) within)
+    by_case (inr e) =
+        let same : nat_lt k place ≡ nat_lt k (place + 1) = same_tests (nat_lt k place) (nat_lt k (place + 1))
+        (λ t. let lt = lt_of k place t in of_lt k (place + 1) (omega arith))
+        (λ t. let lt = lt_of k (place + 1) t in of_lt k place (below_unless k place lt e)) in
+        ap (λ t. (nat_lt k place && there k) || (t && there place)) (ne_eqb k place e)
+        ∙ or_false (nat_lt k place && there k) ∙ ap (λ t. t && there k) same
+
+-- a word of as many ones as there are samples from the first of word w on, up to 64
+pub all_there : (samples : List ℤ) (w count word : ℕ) → 64 * w ≤ length samples → count ≡ min 64 (length samples - 64 * w) → word + 1 ≡ 2 ^ count
+    → IsWordOf (is_clear_at None samples) w word
+all_there samples w count word within counted ones k h =
+    let mask : word ≡ 2 ^ count - 1 = omega (arith, ones) in
+    let same : nat_lt k count ≡ nat_lt (64 * w + k) (length samples) = same_tests (nat_lt k count) (nat_lt (64 * w + k) (length samples))
+    (λ t. let lt = lt_of k count t in of_lt (64 * w + k) (length samples) (omega (arith, counted)))
+    (λ t. let lt = lt_of (64 * w + k) (length samples) t in of_lt k count (omega (arith, counted))) in
+    ap (λ n. is_set n k) mask ∙ ones_below k count (cases_lt k count) ∙ same ∙ sym (and_true (nat_lt (64 * w + k) (length samples)))
+  where
+    ones_below : (i n : ℕ) → (i < n) ⊎ (n ≤ i) → is_set (2 ^ n - 1) i ≡ nat_lt i n
+    ones_below i n (inl low) = ap (λ m. m == 1) (bit_at_ones n i low) ∙ sym (of_lt i n low)
+    ones_below i n (inr high) = ap (λ m. m == 1) (bit_at_ones_above n i high) ∙ sym (not_below i n high)
