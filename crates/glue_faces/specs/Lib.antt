@@ -1,2 +1,1 @@
 pub mod EdgeSets
-pub mod Placing

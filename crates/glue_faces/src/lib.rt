@@ -7,7 +7,7 @@ ghost use Rattle.iso_model.specs.Neighbours.{ShareLaw};
 ghost use Rattle.iso_model.specs.Values.{IsRegularGrid, volume};
 ghost use Rattle.iso_model.specs.Surface.{IsClosed, IsPlaced, IsSided, FacesAreOuter};
 ghost use Rattle.glue_faces.specs.EdgeSets.{edges_in};
-ghost use Rattle.glue_faces.specs.Placing.{placed_simplices};
+ghost use Rattle.iso_model.specs.Placed.{placed_mesh};
 
 #[cfg(test)]
 mod tests;
@@ -50,10 +50,10 @@ pub fn face_law<C: Split<D>, const D: usize>(
 )
     requires regular { IsRegularGrid grid.now }
     requires sizes { complex.now ≡ grid.now.sizes }
-    ensures closed { IsClosed (volume C.KIND grid.now iso blank) (placed_simplices C.KIND grid.now iso blank table.now) }
-    ensures placed { IsPlaced (volume C.KIND grid.now iso blank) (placed_simplices C.KIND grid.now iso blank table.now) }
-    ensures sided { IsSided (volume C.KIND grid.now iso blank) (placed_simplices C.KIND grid.now iso blank table.now) }
-    ensures outer { FacesAreOuter (volume C.KIND grid.now iso blank) (placed_simplices C.KIND grid.now iso blank table.now) }
+    ensures closed { let v = volume C.KIND grid.now iso blank in IsClosed v (placed_mesh v table.now).simplices }
+    ensures placed { let v = volume C.KIND grid.now iso blank in IsPlaced v (placed_mesh v table.now).simplices }
+    ensures sided { let v = volume C.KIND grid.now iso blank in IsSided v (placed_mesh v table.now).simplices }
+    ensures outer { let v = volume C.KIND grid.now iso blank in FacesAreOuter v (placed_mesh v table.now).simplices }
 {
     let _ = table.table();
     let _ = complex.cells();

@@ -1,11 +1,14 @@
-ghost use Rattle.std.specs.Prelude.{◌≡◌, ℕ, ◌+◌, ◌*◌, ◌^◌, ◌==◌, nat_lt, if◌then◌else◌, ◌<◌, ◌≤◌, ◌↔◌, List, length, slice_index, slice_index_or, All, Some, IfSome, IfNone, IsNone, pos, ◌+ℤ◌};
+ghost use Rattle.std.specs.Prelude.{◌≡◌, ℕ, ◌+◌, ◌*◌, ◌^◌, ◌==◌, ◌++◌, nat_lt, if◌then◌else◌, ◌<◌, ◌≤◌, ◌↔◌, List, length, slice_index, slice_index_or, All, Some, IfSome, IfNone, IsNone, pos, ◌+ℤ◌};
 ghost use Rattle.iso_model.specs.Values.{product};
 ghost use Rattle.grid_split.specs.Steps.{IsStep, stepped, LeavesAxis, LeavesCubes, IsShiftedCube};
 ghost use Rattle.iso_model.specs.Points.{point, comes_first};
 ghost use Rattle.iso_model.specs.Splits.{cells_per_cube, cell_count, cube_of, rank_of, corner as corner_of, edge as edge_of, edge_of_ends, is_odd_cell};
-ghost use Rattle.iso_model.specs.Neighbours.{facet_points, IsNeighbour, OnOuterBoundary};
+ghost use Rattle.iso_model.specs.Neighbours.{facet_points, IsNeighbour, IsRing, OnOuterBoundary};
+ghost use Rattle.grid_split.specs.Rounds.{as_edge, IsEdge, StandsAt, IsMissing, IsMissingIn, AreFit, IsArc};
 
+use crate::rings::{Place, Ring, cells_round, middle};
 use crate::{Edge, Split};
+use arrayvec::ArrayVec;
 use std::marker::{Model, PhantomData};
 
 /// The cells of a grid. A cell's number is its cube's number times the cells of a cube, plus its rank; cubes are
@@ -164,6 +167,72 @@ impl<C: Split<D>, const D: usize> Complex<C, D> {
             rest /= span;
         }
         cube
+    }
+}
+
+impl<C: Split<3>> Complex<C, 3> {
+    /// The cells that have an edge, each once, in turn round it: consecutive ones share a facet that has the edge, and
+    /// where the ring is closed, the last and the first one do. It is closed exactly where the ends of the edge do not
+    /// lie on the outer boundary. The edge is one of a cell.
+    ///
+    /// No cell is searched for: the fixed list of cells round an edge of its way is moved to its place.
+    pub fn ring(&self, edge: &Edge<3>) -> Ring
+        requires edge { IsEdge C.KIND self.now (as_edge edge.now) }
+        ensures ring { IsRing C.KIND self.now (as_edge edge.now) result.cells.items result.closed }
+    {
+        let _ = &self.sizes;
+        let (cube, way) = middle(edge);
+        self.arc(&cube, cells_round(C::KIND, &way))
+    }
+
+    // The cells at these places whose cubes are there, from the first gap on once round.
+    fn arc(&self, cube: &[u32; 3], places: &[Place]) -> Ring
+        requires fit { AreFit C.KIND self.now cube.now places.now }
+        ensures arc { IsArc C.KIND self.now cube.now places.now result.cells.items result.closed }
+    {
+        let mut before = ArrayVec::<u64, 8>::new();
+        let mut cells = ArrayVec::<u64, 8>::new();
+        let mut closed = true;
+        for place in places {
+            match self.cell_at(cube, place) {
+                Some(cell) if closed => before.push(cell),
+                Some(cell) => cells.push(cell),
+                None => closed = false,
+            }
+        }
+        // There is room for all: they are at most as many as the places.
+        let _ = cells.try_extend_from_slice(before.as_slice());
+        Ring { cells, closed }
+    }
+
+    // The cell at this place, or `None` where its cube is missing.
+    fn cell_at(&self, cube: &[u32; 3], place: &Place) -> Option<u64>
+        requires rank { place.now.rank < C.PER_CUBE }
+        ensures some { IfSome result (StandsAt C.KIND self.now cube.now place.now) }
+        ensures none { IfNone result (IsMissing self.now cube.now place.now) }
+    {
+        let spans = &self.spans;
+        let strides = &self.strides;
+        let mut number = 0;
+        for axis in 0..3 {
+            match step_back(cube[axis], place.back[axis], spans[axis]) {
+                Some(x) => number = add_places(number, x, strides[axis]),
+                None => return None,
+            }
+        }
+        Some(u64::from(number) * per_cube::<C, 3>() + u64::from(place.rank))
+    }
+}
+
+// The cube this far back along an axis with this many cubes, or `None` where there is none.
+fn step_back(x: u32, back: u32, span: u32) -> Option<u32>
+    ensures some { IfSome result (λ at. (at < span) × (at + back ≡ x)) }
+    ensures none { IfNone result (IsMissingIn (span + 1) x back) }
+{
+    if x < back || x - back >= span {
+        None
+    } else {
+        Some(x - back)
     }
 }
 

@@ -8,10 +8,12 @@
 mod complex;
 mod cubes;
 mod pyramids;
+mod rings;
 mod simplices;
 mod split;
 
 pub use complex::{Complex, edge_between, placed};
+pub use rings::{Place, Ring};
 pub use split::{Edge, Split};
 
 #[cfg(test)]

@@ -1,0 +1,160 @@
+-- The cells round an edge of three dimensions, by their ranks and by where their cubes stand.
+--
+-- An edge is told by the sum of its ends, in quarter-units: 4 times a cube, its middle cube, and the way of the edge, below 4 in each axis. The cubes
+-- of the cells that have it stand in each axis at the middle cube, or one back.
+use Rattle.std.specs.Prelude.{◌≡◌, ℕ, nat_le, ◌+◌, ◌-◌, ◌*◌, ◌%◌, ◌<◌, ◌≤◌, ◌==◌, ◌⊎◌, Bool, true, ◌&&◌, ⊤, if◌then◌else◌, ℤ, pos, ◌+ℤ◌}
+use Rattle.std.specs.Prelude.{List, [], ◌∷◌, ◌++◌, map, filter, length, slice_index, slice_index_or, Contains}
+use Rattle.std.specs.List.{list_all}
+use Rattle.grid_split.specs.declared.rings.Place.{Place}
+use Rattle.grid_split.specs.declared.split.Edge.{Edge}
+use Rattle.iso_model.specs.declared.Kind.{Kind}
+use Rattle.iso_model.specs.Points.{point}
+use Rattle.iso_model.specs.Cells.{edge_count, edge_ends, edge_in_facet, facet_count}
+use Rattle.iso_model.specs.Splits as Splits
+use Rattle.iso_model.specs.Splits.{cells_per_cube, cell_count, cube_of, rank_of}
+use Rattle.iso_model.specs.SplitLaws.{corner_sum}
+use Rattle.iso_model.specs.Neighbours.{HasEdge, IsAcross, shift_across}
+
+-- the two ends of an edge
+abbrev pub as_edge : {D : ℕ} → Edge D → Splits.Edge
+as_edge e = record { low = e.low; high = e.high }
+
+-- the edge is one of a cell of the grid
+abbrev pub IsEdge : Kind → List ℕ → Splits.Edge → Type 0
+IsEdge kind sizes e = (cell : ℕ) × (cell < cell_count kind sizes) × HasEdge kind sizes cell e
+
+-- ---- ways
+
+-- the sum of the two ends of edge n of the cell of this rank, from the first corner of its cube
+abbrev pub sum_of : Kind → ℕ → ℕ → List ℕ
+sum_of kind rank n = corner_sum kind 3 rank (edge_ends kind 3 n)
+
+-- the way of an edge with this sum of ends
+abbrev pub way_of : List ℕ → List ℕ
+way_of sum = map (λ c. c % 4) sum
+
+-- some cell has an edge of this way
+abbrev pub IsWay : Kind → List ℕ → Type 0
+IsWay kind way = (rank : ℕ) × (n : ℕ) × (rank < cells_per_cube kind 3) × (n < edge_count kind 3) × (way_of (sum_of kind rank n) ≡ way)
+
+-- the sums of ends are those of the middle cube and the way
+pub record IsMiddle (low high cube way : List ℕ) : Type 0 where
+  pub cubes : length cube ≡ 3
+  pub ways : length way ≡ 3
+  pub sums : (i : ℕ) → i < 3 → slice_index low i + slice_index high i ≡ 4 * slice_index cube i + slice_index way i
+  pub small : (i : ℕ) → i < 3 → slice_index way i < 4
+
+-- ---- places
+
+-- the cell at this place has the edge of this way, as its edge n
+pub record HasWay (kind : Kind) (way : List ℕ) (p : Place) (n : ℕ) : Type 0 where
+  pub is_rank : p.rank < cells_per_cube kind 3
+  pub is_edge : n < edge_count kind 3
+  pub axes : length p.back ≡ 3
+  pub sum : sum_of kind p.rank n ≡ point 3 (λ i. slice_index way i + 4 * slice_index p.back i)
+
+-- the cell at the place q stands across a facet of the cell at the place p that has the edge
+pub record IsNextTo (kind : Kind) (way : List ℕ) (p q : Place) : Type 0 where
+  pub edge : ℕ
+  pub facet : ℕ
+  pub other : ℕ
+  pub has : HasWay kind way p edge
+  pub is_facet : facet < facet_count kind 3
+  pub facet_has : edge_in_facet kind 3 facet edge ≡ true
+  pub across : IsAcross kind 3 p.rank facet q.rank other
+  pub cube : (i : ℕ) → i < 3
+      → pos (slice_index p.back i) ≡ pos (slice_index q.back i) +ℤ slice_index_or (shift_across kind 3 p.rank facet) i (pos 0)
+
+-- each place is next to the one before it
+abbrev pub AreInTurn : Kind → List ℕ → List Place → Type 0
+AreInTurn kind way [] = ⊤
+AreInTurn kind way (p ∷ []) = ⊤
+AreInTurn kind way (p ∷ q ∷ rest) = IsNextTo kind way p q × AreInTurn kind way (q ∷ rest)
+
+-- no place stands twice
+abbrev pub AreOwn : List Place → Type 0
+AreOwn [] = ⊤
+AreOwn (p ∷ rest) = (¬ Contains rest p) × AreOwn rest
+
+-- ---- the sides of the grid
+
+-- in each axis, whether a cube of the grid stands at the middle cube, and whether one stands one back: those at the place do
+abbrev pub stands : List (Bool × Bool) → List ℕ → Bool
+stands [] back = true
+stands (s ∷ sides) [] = true
+stands (s ∷ sides) (b ∷ back) = (if b == 0 then s.0 else s.1) && stands sides back
+
+-- the places before the first one whose cube is missing
+abbrev pub before_gap : List (Bool × Bool) → List Place → List Place
+before_gap sides [] = []
+before_gap sides (p ∷ rest) = if stands sides p.back then p ∷ before_gap sides rest else []
+
+-- the places after it whose cubes are there
+abbrev pub after_gap : List (Bool × Bool) → List Place → List Place
+after_gap sides [] = []
+after_gap sides (p ∷ rest) = if stands sides p.back then after_gap sides rest else filter (λ (q : Place). stands sides q.back) rest
+
+-- the places whose cubes are there, from the first gap on once round
+abbrev pub arc_of : List (Bool × Bool) → List Place → List Place
+arc_of sides places = after_gap sides places ++ before_gap sides places
+
+-- ---- the fixed list
+
+-- the cells round an edge of this way: each cell that has it, three at least; each next to the one before it, and the first next to the last; at the sides
+-- of a grid the missing ones are one run of the list, so that the others are an arc; and where the edge lies in a plane of samples across an axis, there
+-- are cells on both sides of that plane
+pub record AreRound (kind : Kind) (way : List ℕ) (places : List Place) : Type 0 where
+  pub has : (p : Place) → Contains places p → (n : ℕ) × HasWay kind way p n
+  pub all : (p : Place) (n : ℕ) → HasWay kind way p n → Contains places p
+  pub three : 3 ≤ length places
+  pub own : (a b c : Bool × Bool) → AreOwn (arc_of (a ∷ b ∷ c ∷ []) places)
+  pub arcs : (a b c : Bool × Bool) → AreInTurn kind way (arc_of (a ∷ b ∷ c ∷ []) places)
+  pub round : (d : Place) → IsNextTo kind way (slice_index_or places (length places - 1) d) (slice_index_or places 0 d)
+  pub both : (i : ℕ) → i < 3 → slice_index way i ≡ 0
+      → ((p : Place) × Contains places p × (slice_index p.back i ≡ 0)) × ((p : Place) × Contains places p × (slice_index p.back i ≡ 1))
+
+-- ---- in a grid
+
+-- the cell of the grid at this place, from the middle cube
+pub record StandsAt (kind : Kind) (sizes cube : List ℕ) (p : Place) (cell : ℕ) : Type 0 where
+  pub is_cell : cell < cell_count kind sizes
+  pub rank : rank_of kind sizes cell ≡ p.rank
+  pub cubes : (i : ℕ) → i < 3 → slice_index (cube_of kind sizes cell) i + slice_index p.back i ≡ slice_index cube i
+
+-- along an axis with this many samples, no cube stands this far back
+abbrev pub IsMissingIn : ℕ → ℕ → ℕ → Type 0
+IsMissingIn size x back = (x < back) ⊎ (size + back < x + 2)
+
+-- in some axis no cube of the grid stands where the place says
+abbrev pub IsMissing : List ℕ → List ℕ → Place → Type 0
+IsMissing sizes cube p = (i : ℕ) × (i < 3) × IsMissingIn (slice_index sizes i) (slice_index cube i) (slice_index p.back i)
+
+-- whether a cube stands at x, and one back, along an axis with this many samples
+abbrev pub side_at : ℕ → ℕ → Bool × Bool
+side_at size x = (nat_le (x + 2) size, nat_le 1 x)
+
+-- the sides of the grid at the middle cube
+abbrev pub sides_at : List ℕ → List ℕ → List (Bool × Bool)
+sides_at sizes cube =
+    side_at (slice_index sizes 0) (slice_index cube 0) ∷ side_at (slice_index sizes 1) (slice_index cube 1)
+    ∷ side_at (slice_index sizes 2) (slice_index cube 2) ∷ []
+
+-- in three dimensions, at most eight places, whose cubes stand at the middle cube or one back in each axis; the middle cube is within the samples
+pub record AreFit (kind : Kind) (sizes cube : List ℕ) (places : List Place) : Type 0 where
+  pub axes : length sizes ≡ 3
+  pub few : length places ≤ 8
+  pub ranks : (p : Place) → Contains places p → p.rank < cells_per_cube kind 3
+  pub backs : (p : Place) → Contains places p → (length p.back ≡ 3) × ((i : ℕ) → i < 3 → slice_index p.back i ≤ 1)
+  pub inside : (i : ℕ) → i < 3 → slice_index cube i < slice_index sizes i
+
+-- cells and places, one by one
+abbrev pub AreAt : Kind → List ℕ → List ℕ → List Place → List ℕ → Type 0
+AreAt kind sizes cube [] [] = ⊤
+AreAt kind sizes cube [] (c ∷ cells) = ⊥
+AreAt kind sizes cube (p ∷ places) [] = ⊥
+AreAt kind sizes cube (p ∷ places) (c ∷ cells) = StandsAt kind sizes cube p c × AreAt kind sizes cube places cells
+
+-- the cells at the places whose cubes are there, from the first gap on once round; closed where there is no gap
+pub record IsArc (kind : Kind) (sizes cube : List ℕ) (places : List Place) (cells : List ℕ) (closed : Bool) : Type 0 where
+  pub at : AreAt kind sizes cube (arc_of (sides_at sizes cube) places) cells
+  pub whole : closed ≡ list_all (λ (p : Place). stands (sides_at sizes cube) p.back) places

@@ -1,0 +1,514 @@
+ghost use Rattle.std.specs.Prelude.{◌≡◌, ℕ, ◌+◌, ◌*◌, ◌^◌, ◌/◌, ◌<◌, ◌≤◌, length, slice_index};
+ghost use Rattle.grid_split.specs.Rounds.{IsMiddle, IsWay, AreRound};
+
+use crate::Edge;
+use arrayvec::ArrayVec;
+use cell_lattice::Kind;
+
+/// The cells that have an edge, in turn round it: each shares a facet that has the edge with the one before it, and where
+/// the ring is closed, the first one with the last.
+#[derive(Drop)]
+pub struct Ring {
+    pub cells: ArrayVec<u64, 8>,
+    pub closed: bool,
+}
+
+/// A cell round an edge: its rank, and in each axis by how many cubes its cube stands back from the middle cube of the
+/// edge, in which the edge's midpoint lies, or begins.
+#[derive(Clone, Copy, Debug)]
+pub struct Place {
+    pub rank: u32,
+    pub back: [u32; 3],
+}
+
+/// The middle cube of an edge, and its way: in each axis the sum of the two ends is 4 times the one, and the other.
+pub(crate) fn middle(edge: &Edge<3>) -> ([u32; 3], [u32; 3])
+    requires few { (i : ℕ) → i < 3 → slice_index edge.now.low i + slice_index edge.now.high i < 2 ^ 32 }
+    ensures { IsMiddle edge.now.low edge.now.high result.0 result.1 }
+{
+    let mut cube = [0; 3];
+    let mut way = [0; 3];
+    for axis in 0..3 {
+        let sum = edge.low[axis] + edge.high[axis];
+        cube[axis] = sum / 4;
+        way[axis] = sum % 4;
+    }
+    (cube, way)
+}
+
+/// The cells round an edge of this way, in turn.
+pub(crate) fn cells_round(kind: Kind, way: &[u32; 3]) -> &'static [Place]
+    requires way { IsWay kind way.now }
+    ensures round { AreRound kind way.now result.now }
+    ensures few { length result.now ≤ 8 }
+{
+    let number = way_number(way);
+    match kind {
+        Kind::Cube => CUBES[number],
+        Kind::Simplex => SIMPLICES[number],
+        Kind::Pyramid if way[0] % 2 == 0 => PYRAMIDS[number],
+        Kind::Pyramid => CENTRES[number],
+    }
+}
+
+// Bit i is set where the high end is further up axis i: by 2 between samples, and at the centre of a cube by 1.
+fn way_number(way: &[u32; 3]) -> usize
+    requires { (i : ℕ) → i < 3 → slice_index way.now i < 4 }
+    ensures number { result ≡ slice_index way.now 0 / 2 + slice_index way.now 1 / 2 * 2 + slice_index way.now 2 / 2 * 4 }
+    ensures few { result < 8 }
+{
+    (way[0] / 2 + way[1] / 2 * 2 + way[2] / 2 * 4) as usize
+}
+
+// The cubes round an edge along one axis: four.
+const CUBES: [&'static [Place]; 8] = [
+    &[],
+    &[
+        Place {
+            rank: 0,
+            back: [0, 0, 0],
+        },
+        Place {
+            rank: 0,
+            back: [0, 0, 1],
+        },
+        Place {
+            rank: 0,
+            back: [0, 1, 1],
+        },
+        Place {
+            rank: 0,
+            back: [0, 1, 0],
+        },
+    ],
+    &[
+        Place {
+            rank: 0,
+            back: [0, 0, 0],
+        },
+        Place {
+            rank: 0,
+            back: [0, 0, 1],
+        },
+        Place {
+            rank: 0,
+            back: [1, 0, 1],
+        },
+        Place {
+            rank: 0,
+            back: [1, 0, 0],
+        },
+    ],
+    &[],
+    &[
+        Place {
+            rank: 0,
+            back: [0, 0, 0],
+        },
+        Place {
+            rank: 0,
+            back: [0, 1, 0],
+        },
+        Place {
+            rank: 0,
+            back: [1, 1, 0],
+        },
+        Place {
+            rank: 0,
+            back: [1, 0, 0],
+        },
+    ],
+    &[],
+    &[],
+    &[],
+];
+
+// The simplices round an edge: six where its ends differ in one axis or in three, and four where they differ in two.
+const SIMPLICES: [&'static [Place]; 8] = [
+    &[],
+    &[
+        Place {
+            rank: 0,
+            back: [0, 0, 0],
+        },
+        Place {
+            rank: 1,
+            back: [0, 0, 0],
+        },
+        Place {
+            rank: 2,
+            back: [0, 1, 0],
+        },
+        Place {
+            rank: 5,
+            back: [0, 1, 1],
+        },
+        Place {
+            rank: 3,
+            back: [0, 1, 1],
+        },
+        Place {
+            rank: 4,
+            back: [0, 0, 1],
+        },
+    ],
+    &[
+        Place {
+            rank: 0,
+            back: [1, 0, 0],
+        },
+        Place {
+            rank: 3,
+            back: [0, 0, 0],
+        },
+        Place {
+            rank: 2,
+            back: [0, 0, 0],
+        },
+        Place {
+            rank: 5,
+            back: [0, 0, 1],
+        },
+        Place {
+            rank: 1,
+            back: [1, 0, 1],
+        },
+        Place {
+            rank: 4,
+            back: [1, 0, 1],
+        },
+    ],
+    &[
+        Place {
+            rank: 0,
+            back: [0, 0, 0],
+        },
+        Place {
+            rank: 2,
+            back: [0, 0, 0],
+        },
+        Place {
+            rank: 5,
+            back: [0, 0, 1],
+        },
+        Place {
+            rank: 4,
+            back: [0, 0, 1],
+        },
+    ],
+    &[
+        Place {
+            rank: 0,
+            back: [1, 1, 0],
+        },
+        Place {
+            rank: 2,
+            back: [1, 1, 0],
+        },
+        Place {
+            rank: 1,
+            back: [1, 0, 0],
+        },
+        Place {
+            rank: 5,
+            back: [0, 0, 0],
+        },
+        Place {
+            rank: 4,
+            back: [0, 0, 0],
+        },
+        Place {
+            rank: 3,
+            back: [0, 1, 0],
+        },
+    ],
+    &[
+        Place {
+            rank: 1,
+            back: [0, 0, 0],
+        },
+        Place {
+            rank: 2,
+            back: [0, 1, 0],
+        },
+        Place {
+            rank: 3,
+            back: [0, 1, 0],
+        },
+        Place {
+            rank: 4,
+            back: [0, 0, 0],
+        },
+    ],
+    &[
+        Place {
+            rank: 0,
+            back: [1, 0, 0],
+        },
+        Place {
+            rank: 1,
+            back: [1, 0, 0],
+        },
+        Place {
+            rank: 5,
+            back: [0, 0, 0],
+        },
+        Place {
+            rank: 3,
+            back: [0, 0, 0],
+        },
+    ],
+    &[
+        Place {
+            rank: 0,
+            back: [0, 0, 0],
+        },
+        Place {
+            rank: 1,
+            back: [0, 0, 0],
+        },
+        Place {
+            rank: 4,
+            back: [0, 0, 0],
+        },
+        Place {
+            rank: 5,
+            back: [0, 0, 0],
+        },
+        Place {
+            rank: 3,
+            back: [0, 0, 0],
+        },
+        Place {
+            rank: 2,
+            back: [0, 0, 0],
+        },
+    ],
+];
+
+// The pyramids round an edge between two samples: in each of the four cubes the two over the facets that have it.
+const PYRAMIDS: [&'static [Place]; 8] = [
+    &[],
+    &[
+        Place {
+            rank: 2,
+            back: [0, 0, 0],
+        },
+        Place {
+            rank: 3,
+            back: [0, 1, 0],
+        },
+        Place {
+            rank: 4,
+            back: [0, 1, 0],
+        },
+        Place {
+            rank: 5,
+            back: [0, 1, 1],
+        },
+        Place {
+            rank: 3,
+            back: [0, 1, 1],
+        },
+        Place {
+            rank: 2,
+            back: [0, 0, 1],
+        },
+        Place {
+            rank: 5,
+            back: [0, 0, 1],
+        },
+        Place {
+            rank: 4,
+            back: [0, 0, 0],
+        },
+    ],
+    &[
+        Place {
+            rank: 0,
+            back: [0, 0, 0],
+        },
+        Place {
+            rank: 1,
+            back: [1, 0, 0],
+        },
+        Place {
+            rank: 4,
+            back: [1, 0, 0],
+        },
+        Place {
+            rank: 5,
+            back: [1, 0, 1],
+        },
+        Place {
+            rank: 1,
+            back: [1, 0, 1],
+        },
+        Place {
+            rank: 0,
+            back: [0, 0, 1],
+        },
+        Place {
+            rank: 5,
+            back: [0, 0, 1],
+        },
+        Place {
+            rank: 4,
+            back: [0, 0, 0],
+        },
+    ],
+    &[],
+    &[
+        Place {
+            rank: 0,
+            back: [0, 0, 0],
+        },
+        Place {
+            rank: 1,
+            back: [1, 0, 0],
+        },
+        Place {
+            rank: 2,
+            back: [1, 0, 0],
+        },
+        Place {
+            rank: 3,
+            back: [1, 1, 0],
+        },
+        Place {
+            rank: 1,
+            back: [1, 1, 0],
+        },
+        Place {
+            rank: 0,
+            back: [0, 1, 0],
+        },
+        Place {
+            rank: 3,
+            back: [0, 1, 0],
+        },
+        Place {
+            rank: 2,
+            back: [0, 0, 0],
+        },
+    ],
+    &[],
+    &[],
+    &[],
+];
+
+// The pyramids round an edge to the centre of a cube: the three over the facets that have its other end.
+const CENTRES: [&'static [Place]; 8] = [
+    &[
+        Place {
+            rank: 0,
+            back: [0, 0, 0],
+        },
+        Place {
+            rank: 2,
+            back: [0, 0, 0],
+        },
+        Place {
+            rank: 4,
+            back: [0, 0, 0],
+        },
+    ],
+    &[
+        Place {
+            rank: 1,
+            back: [0, 0, 0],
+        },
+        Place {
+            rank: 2,
+            back: [0, 0, 0],
+        },
+        Place {
+            rank: 4,
+            back: [0, 0, 0],
+        },
+    ],
+    &[
+        Place {
+            rank: 0,
+            back: [0, 0, 0],
+        },
+        Place {
+            rank: 3,
+            back: [0, 0, 0],
+        },
+        Place {
+            rank: 4,
+            back: [0, 0, 0],
+        },
+    ],
+    &[
+        Place {
+            rank: 1,
+            back: [0, 0, 0],
+        },
+        Place {
+            rank: 3,
+            back: [0, 0, 0],
+        },
+        Place {
+            rank: 4,
+            back: [0, 0, 0],
+        },
+    ],
+    &[
+        Place {
+            rank: 0,
+            back: [0, 0, 0],
+        },
+        Place {
+            rank: 2,
+            back: [0, 0, 0],
+        },
+        Place {
+            rank: 5,
+            back: [0, 0, 0],
+        },
+    ],
+    &[
+        Place {
+            rank: 1,
+            back: [0, 0, 0],
+        },
+        Place {
+            rank: 2,
+            back: [0, 0, 0],
+        },
+        Place {
+            rank: 5,
+            back: [0, 0, 0],
+        },
+    ],
+    &[
+        Place {
+            rank: 0,
+            back: [0, 0, 0],
+        },
+        Place {
+            rank: 3,
+            back: [0, 0, 0],
+        },
+        Place {
+            rank: 5,
+            back: [0, 0, 0],
+        },
+    ],
+    &[
+        Place {
+            rank: 1,
+            back: [0, 0, 0],
+        },
+        Place {
+            rank: 3,
+            back: [0, 0, 0],
+        },
+        Place {
+            rank: 5,
+            back: [0, 0, 0],
+        },
+    ],
+];
