@@ -8,6 +8,8 @@
 mod complex;
 mod cubes;
 mod pyramids;
+#[cfg(test)]
+mod ring_tests;
 mod rings;
 mod simplices;
 mod split;
