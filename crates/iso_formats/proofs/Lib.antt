@@ -3,6 +3,12 @@ pub mod GridFileTests
 pub mod CommandTests
 pub mod TableLaws
 pub mod TableFaultTests
+pub mod TablePlaces
+pub mod TableRows
+pub mod TableIndexLaws
+pub mod TableWalkLaws
+pub mod TableFieldLaws
+pub mod TableReadLaws
 pub mod TableFile2Laws
 pub mod TableFile2Cases
 pub mod HeaderLaws

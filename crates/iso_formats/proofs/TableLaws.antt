@@ -66,7 +66,7 @@ entries_go_on kind d (ws ∷ es) (vs ∷ fs) x y l a b e =
     let h = f.0 in let t = r.is in
     record { further = r.further; is = cc; rest = r.rest }
 
-same_kind : (k l : Kind) → kind_byte k ≡ kind_byte l → k ≡ l
+pub same_kind : (k l : Kind) → kind_byte k ≡ kind_byte l → k ≡ l
 same_kind Cube Cube e = refl
 same_kind Cube Simplex e = absurd (omega arith)
 same_kind Cube Pyramid e = absurd (omega arith)

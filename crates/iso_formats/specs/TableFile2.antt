@@ -186,6 +186,10 @@ pub record IsFirstFailed (kind : Kind) (d : ℕ) (bytes : List ℕ) (f : Field) 
 abbrev pub NoneFails : Kind → ℕ → List ℕ → Type 0
 NoneFails kind d bytes = (f : Field) → IsField bytes d f → ¬ (fails kind d bytes f ≡ true)
 
+-- no field that begins before the place fails
+abbrev pub NoneFailsBefore : Kind → ℕ → List ℕ → ℕ → Type 0
+NoneFailsBefore kind d bytes place = (f : Field) → IsField bytes d f → place_of bytes d f < place → ¬ (fails kind d bytes f ≡ true)
+
 -- the place behind the last body, or behind the index where there is none
 abbrev pub file_end : List ℕ → ℕ → ℕ
 file_end bytes d = body_place bytes d (stated bytes)
@@ -262,18 +266,22 @@ IsFileTooLong bytes = limit_of bytes < length bytes
 abbrev pub IsTableFile : List ℕ → Table → Type 0
 IsTableFile bytes t = SpellsTable bytes t ⊎ SpellsTable2 bytes t
 
+-- the bytes are the file of some table
+abbrev pub IsWholeFile : List ℕ → Type 0
+IsWholeFile bytes = (t : Table) × IsTableFile bytes t
+
 -- ---- laws
 
--- the bytes of one table are not those of another
+-- no two tables have these bytes
 abbrev pub HasOneTable : List ℕ → Type 0
 HasOneTable bytes = (t u : Table) → IsTableFile bytes t → IsTableFile bytes u → u ≡ t
 
 -- a file with a fault is no file of a table
-abbrev pub HasNoTable : List ℕ → Type 0
-HasNoTable bytes = (fault : FileFault) → HasFileFault bytes fault → (t : Table) → ¬ IsTableFile bytes t
+abbrev pub FaultsExclude : List ℕ → Type 0
+FaultsExclude bytes = (fault : FileFault) → HasFileFault bytes fault → ¬ IsWholeFile bytes
 
 -- bytes that are no file of a table have exactly one fault
 abbrev pub HasOneFileFault : List ℕ → Type 0
 HasOneFileFault bytes =
-    All (λ b. b < 256) bytes → ((t : Table) → ¬ IsTableFile bytes t)
+    All (λ b. b < 256) bytes → ¬ IsWholeFile bytes
     → (fault : FileFault) × HasFileFault bytes fault × ((other : FileFault) → HasFileFault bytes other → other ≡ fault)

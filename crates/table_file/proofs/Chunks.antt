@@ -3,11 +3,8 @@ use Rattle.std.specs.Prelude.{◌≡◌, ℕ, zero, suc, ◌+◌, ◌*◌, ◌<�
 use Rattle.std.specs.Simd.{first_chunks}
 use Rattle.std.proofs.Common.{refl, sym, ap, ◌∙◌, arith}
 use Rattle.std.proofs.lemmas.List.{take-append-drop, take-take, drop-take, length-take-le, length-drop, length-append}
-use Rattle.std.proofs.lemmas.List.Elements.{All-nil, All-cons, All-append, All-head, All-tail, All-take, All-drop}
-
--- so many members below a bound
-abbrev pub IsRow : ℕ → ℕ → List ℕ → Type 0
-IsRow d most w = (length w ≡ d) × All (λ e. e < most) w
+use Rattle.std.proofs.lemmas.List.Elements.{All-nil, All-cons, All-take, All-drop}
+use Rattle.iso_formats.proofs.TableRows.{IsRow}
 
 pub length-first_chunks : (d k : ℕ) (xs : List ℕ) → length (first_chunks d k xs) ≡ k
 length-first_chunks d zero xs = refl
@@ -31,19 +28,3 @@ rows-first_chunks most d (suc k) xs room right =
     All-cons (IsRow d most) (take d xs) (first_chunks d k (drop d xs))
     (length-take-le d xs (omega (arith, room)), All-take (λ e. e < most) d xs right)
     (rows-first_chunks most d k (drop d xs) (omega (arith, room, length-drop d xs)) (All-drop (λ e. e < most) d xs right))
-
-pub length-rows : (most d : ℕ) (ws : List (List ℕ)) → All (IsRow d most) ws → length (flat_map (λ (w : List ℕ). w) ws) ≡ length ws * d
-length-rows most d [] right = let e : 0 * d ≡ 0 = omega arith in sym e
-length-rows most d (w ∷ ws) right =
-    omega (
-      arith,
-      length-append w (flat_map (λ (w : List ℕ). w) ws),
-      (All-head (IsRow d most) w ws right).0,
-      length-rows most d ws (All-tail (IsRow d most) w ws right),
-    )
-
-pub All-rows : (most d : ℕ) (ws : List (List ℕ)) → All (IsRow d most) ws → All (λ e. e < most) (flat_map (λ (w : List ℕ). w) ws)
-All-rows most d [] right = All-nil (λ e. e < most)
-All-rows most d (w ∷ ws) right =
-    All-append (λ e. e < most) w (flat_map (λ (w : List ℕ). w) ws) (All-head (IsRow d most) w ws right).1
-    (All-rows most d ws (All-tail (IsRow d most) w ws right))

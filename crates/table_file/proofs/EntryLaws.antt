@@ -10,7 +10,8 @@ use Rattle.iso_model.specs.Cells.{edge_count}
 use Rattle.iso_model.specs.Tables.{IsEntry, IsTuple}
 use Rattle.iso_formats.specs.TableFile.{big_endian, entry_bytes}
 use Rattle.table_file.specs.HeldEntries.{BeginsWithCount, IsEntryAt, HasWrongEdge, IsCutOff}
-use Rattle.table_file.proofs.Chunks.{IsRow, length-first_chunks, flat_map-first_chunks, rows-first_chunks, length-rows, All-rows}
+use Rattle.table_file.proofs.Chunks.{length-first_chunks, flat_map-first_chunks, rows-first_chunks}
+use Rattle.iso_formats.proofs.TableRows.{IsRow, length-rows, All-rows}
 use Rattle.iso_formats.proofs.TableLaws.{same_count}
 
 -- ---- what the front of the bytes holds

@@ -2,6 +2,7 @@ mod TupleRows
 mod Chunks
 mod EntryLaws
 mod HeadLaws
+mod IndexedWritingLaws
 mod Progress
 mod RefusalLaws
 pub mod WritingLaws
@@ -9,4 +10,5 @@ mod CheckLaws
 mod Beginnings
 mod Causes
 pub mod FaultLaws
+pub mod FileLaws
 mod SomeFault

@@ -8,7 +8,7 @@ use Rattle.iso_model.specs.Cells.{HasDimension, label_count}
 use Rattle.iso_model.specs.Tables.{Table, IsEntry}
 use Rattle.iso_formats.specs.TableFile.{table_bytes, big_endian, SpellsTable}
 use Rattle.iso_formats.proofs.TableLaws.{table_reads_on}
-use Rattle.table_file.proofs.Chunks.{length-rows}
+use Rattle.iso_formats.proofs.TableRows.{length-rows}
 use Rattle.table_file.proofs.TupleRows.{small_counts}
 use Rattle.table_file.proofs.Progress.{labels_same, table_of, table_bytes-nil, table_bytes-push}
 

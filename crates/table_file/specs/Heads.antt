@@ -4,6 +4,8 @@ use Rattle.iso_model.specs.declared.Kind.{Kind}
 use Rattle.iso_model.specs.declared.Kind.TheVariants.{Cube, Simplex, Pyramid}
 use Rattle.iso_model.specs.Cells.{HasDimension}
 use Rattle.iso_formats.specs.TableFile.{head_bytes}
+use Rattle.table_file.specs.declared.heads.Version.{Version}
+use Rattle.table_file.specs.declared.heads.Version.TheVariants.{One, Two}
 
 -- the seven kinds and dimensions of tables
 abbrev pub rows : List (Kind × ℕ)
@@ -15,6 +17,11 @@ pub record IsAgreement (bytes head : List ℕ) (places : ℕ) : Type 0 where
   pub inside : places ≤ length bytes
   pub same : take places bytes ≡ take places head
   pub ends : places < 16 → places < length bytes → slice_index bytes places ≢ slice_index head places
+
+-- the number of a version
+abbrev pub version_number : Version → ℕ
+version_number One = 1
+version_number Two = 2
 
 -- the first bytes, so many, are those of a head
 pub record BeginsHead (bytes : List ℕ) (places : ℕ) : Type 0 where

@@ -3,9 +3,16 @@
 ghost use Rattle.std.specs.Prelude.{◌≡◌, ℕ, ◌+◌, ◌<◌, ◌≤◌, length, take, slice_index, slice_index_or, IfOk, IfErr};
 ghost use Rattle.iso_model.specs.Cells.{HasDimension, corner_count, edge_count, label_count};
 ghost use Rattle.iso_formats.specs.TableFile.{head_bytes, kind_byte};
-ghost use Rattle.table_file.specs.Heads.{IsAgreement, HasHead, StopsInHead, rows};
+ghost use Rattle.table_file.specs.Heads.{IsAgreement, HasHead, StopsInHead, rows, version_number};
 
 use iso_model::Kind;
+
+/// The versions of table files.
+#[derive(Clone, Copy, Debug, PartialEq, Eq)]
+pub(crate) enum Version {
+    One,
+    Two,
+}
 
 /// The number of corners of a cell.
 fn corners(kind: Kind, dimension: u8) -> u8
@@ -39,11 +46,15 @@ pub(crate) fn labels(kind: Kind, dimension: u8) -> u32
     1 << corners(kind, dimension)
 }
 
-/// The head of the tables of a kind and a dimension.
-pub(crate) fn head(kind: Kind, dimension: u8) -> [u8; 16]
+/// The head of the files of a version that hold tables of a kind and a dimension.
+pub(crate) fn head(version: Version, kind: Kind, dimension: u8) -> [u8; 16]
     requires { HasDimension kind dimension }
-    ensures { result ≡ head_bytes 1 kind dimension }
+    ensures { result ≡ head_bytes (version_number version) kind dimension }
 {
+    let version_byte = match version {
+        Version::One => b'1',
+        Version::Two => b'2',
+    };
     let kind_byte = match kind {
         Kind::Cube => 0,
         Kind::Simplex => 1,
@@ -58,7 +69,7 @@ pub(crate) fn head(kind: Kind, dimension: u8) -> [u8; 16]
         b'T',
         b'A',
         b'B',
-        b'1',
+        version_byte,
         kind_byte,
         dimension,
         corners(kind, dimension),
@@ -108,7 +119,7 @@ pub(crate) fn read_head(bytes: &[u8]) -> Result<(Kind, u8), usize>
     let mut reached = 0;
     for number in 0..ROWS.len() {
         let (kind, dimension) = row(number);
-        let places = agreement(bytes, &head(kind, dimension));
+        let places = agreement(bytes, &head(Version::One, kind, dimension));
         if places == 16 {
             return Ok((kind, dimension));
         }

@@ -9,6 +9,7 @@ mod checks;
 mod entries;
 mod faults;
 mod heads;
+mod indexed_writing;
 mod laws;
 mod reading;
 mod tables;
@@ -17,8 +18,9 @@ mod tests;
 mod writing;
 
 pub use faults::TableFault;
+pub use indexed_writing::encode2;
 pub use iso_model::Kind;
-pub use laws::{one_fault_law, wrong_edge_law};
+pub use laws::{one_fault_law, one_table_law, wrong_edge_law};
 pub use reading::decode;
 pub use tables::{AnyTable, Table};
 pub use writing::encode;

@@ -1,6 +1,6 @@
 //! Tables and spoiled ones.
 
-use crate::{AnyTable, Kind, Table, TableFault, decode, encode};
+use crate::{AnyTable, Kind, Table, TableFault, decode, encode, encode2};
 use std::alloc::Global;
 use std::test::Fail;
 
@@ -24,6 +24,40 @@ const SQUARE: [u8; 113] = [
     0, 0, 0, 1, 1, 0, // label 14
     0, 0, 0, 0, // label 15
     0,
+];
+
+/// The table of the square in version 2, which leaves the labels 0 and 15 out.
+const SQUARE2: [u8; 276] = [
+    72, 85, 76, 76, 84, 65, 66, 50, 0, 2, 4, 4, 0, 0, 0, 16, // the head
+    0, 0, 0, 14, // the number of records
+    0, 0, 0, 1, 0, 0, 0, 0, 0, 0, 0, 188, // the record of label 1
+    0, 0, 0, 2, 0, 0, 0, 0, 0, 0, 0, 194, // the record of label 2
+    0, 0, 0, 3, 0, 0, 0, 0, 0, 0, 0, 200, // the record of label 3
+    0, 0, 0, 4, 0, 0, 0, 0, 0, 0, 0, 206, // the record of label 4
+    0, 0, 0, 5, 0, 0, 0, 0, 0, 0, 0, 212, // the record of label 5
+    0, 0, 0, 6, 0, 0, 0, 0, 0, 0, 0, 218, // the record of label 6
+    0, 0, 0, 7, 0, 0, 0, 0, 0, 0, 0, 226, // the record of label 7
+    0, 0, 0, 8, 0, 0, 0, 0, 0, 0, 0, 232, // the record of label 8
+    0, 0, 0, 9, 0, 0, 0, 0, 0, 0, 0, 238, // the record of label 9
+    0, 0, 0, 10, 0, 0, 0, 0, 0, 0, 0, 246, // the record of label 10
+    0, 0, 0, 11, 0, 0, 0, 0, 0, 0, 0, 252, // the record of label 11
+    0, 0, 0, 12, 0, 0, 0, 0, 0, 0, 1, 2, // the record of label 12
+    0, 0, 0, 13, 0, 0, 0, 0, 0, 0, 1, 8, // the record of label 13
+    0, 0, 0, 14, 0, 0, 0, 0, 0, 0, 1, 14, // the record of label 14
+    0, 0, 0, 1, 0, 1, // the body of label 1
+    0, 0, 0, 1, 2, 0, // the body of label 2
+    0, 0, 0, 1, 2, 1, // the body of label 3
+    0, 0, 0, 1, 1, 3, // the body of label 4
+    0, 0, 0, 1, 0, 3, // the body of label 5
+    0, 0, 0, 2, 1, 0, 2, 3, // the body of label 6
+    0, 0, 0, 1, 2, 3, // the body of label 7
+    0, 0, 0, 1, 3, 2, // the body of label 8
+    0, 0, 0, 2, 0, 2, 3, 1, // the body of label 9
+    0, 0, 0, 1, 3, 0, // the body of label 10
+    0, 0, 0, 1, 3, 1, // the body of label 11
+    0, 0, 0, 1, 1, 2, // the body of label 12
+    0, 0, 0, 1, 0, 2, // the body of label 13
+    0, 0, 0, 1, 1, 0, // the body of label 14
 ];
 
 /// The table of the triangle.
@@ -174,6 +208,8 @@ fn writes_what_was_read(rt: HostRuntime) -> Result<(), Fail> {
     };
     let bytes = encode(rt.alloc(), &square).map_err(|_| "memory")?;
     assert_eq!(rt; bytes.as_slice(), &SQUARE[..112]);
+    let bytes = encode2(rt.alloc(), &square).map_err(|_| "memory")?;
+    assert_eq!(rt; bytes.as_slice(), SQUARE2.as_slice());
     let AnyTable::T2(triangle) = decode(rt.alloc(), &TRIANGLE)? else {
         return Err("no table of two dimensions".into());
     };

@@ -3,7 +3,7 @@
 ghost use Rattle.std.specs.Prelude.{◌≡◌, ◌++◌, length, IfOk, OnOk};
 ghost use Rattle.iso_formats.specs.TableFile.{table_bytes};
 
-use crate::heads::head;
+use crate::heads::{Version, head};
 use crate::tables::Table;
 use iso_base::Memory;
 use std::alloc::Global;
@@ -15,7 +15,7 @@ pub fn encode<const D: usize>(alloc: Global, table: &Table<D>) -> Result<Vec<u8>
     let Ok(mut bytes) = Vec::with_capacity(alloc, length_of(table)) else {
         return Err(Memory);
     };
-    append(&mut bytes, &head(table.kind(), D as u8))?;
+    append(&mut bytes, &head(Version::One, table.kind(), D as u8))?;
     for label in 0..table.labels() {
         let tuples = table.tuples(label);
         append(&mut bytes, &(tuples.len() as u32).to_be_bytes())?;
@@ -35,7 +35,7 @@ fn length_of<const D: usize>(table: &Table<D>) -> usize
     length
 }
 
-fn append(bytes: &mut Vec<u8>, more: &[u8]) -> Result<(), Memory>
+pub(crate) fn append(bytes: &mut Vec<u8>, more: &[u8]) -> Result<(), Memory>
     ensures { OnOk result (bytes.new.items ≡ bytes.old.items ++ more.now) }
 {
     match bytes.extend_from_slice(more) {
