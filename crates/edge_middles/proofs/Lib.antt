@@ -1,0 +1,2 @@
+pub mod CubeMiddles
+pub mod MiddlesFound

@@ -1,0 +1,2 @@
+pub mod MiddleTests
+pub mod Middles
