@@ -2,7 +2,8 @@
 use Rattle.std.proofs.Common.{ap, arith, inl, inr, sym, ◌∙◌}
 use Rattle.std.proofs.lemmas.Bool.{cases_lt, cases_eq, eq-eqb, ne_eqb, false≢true}
 use Rattle.std.proofs.lemmas.Nat.Bits.{bit_at_ones, bit_at_ones_above}
-use Rattle.std.specs.Prelude.{Bool, List, None, false, true, length, min, nat_lt, slice_index_or, ℤ, pos, ℕ, ◌&&◌, ◌||◌, ◌*◌, ◌+◌, ◌-◌, ◌<◌, ◌≤◌, ◌==◌, ◌^◌, ◌≡◌, ◌≢◌, ◌⊎◌}
+use Rattle.std.specs.Prelude.{Bool, List, None, false, true, length, min, nat_lt, slice_index_or, ℤ, pos, ℕ}
+use Rattle.std.specs.Prelude.{◌&&◌, ◌||◌, ◌*◌, ◌+◌, ◌-◌, ◌<◌, ◌≤◌, ◌==◌, ◌^◌, ◌≡◌, ◌≢◌, ◌⊎◌}
 use Rattle.lists.specs.Bits.{is_set}
 use Rattle.lists.proofs.Tests.{and_true, of_lt, lt_of, or_false, same_tests}
 use Rattle.bit_rows.proofs.RowBits.{no_bits}

@@ -16,7 +16,8 @@ use Rattle.lists.proofs.Tests.{and_left, and_right, equal_of}
 use Rattle.edge_middles.specs.Middles.{HasAllMiddles, cube_middles, is_middle}
 use Rattle.edge_middles.specs.MiddleTests.{cube_points, has_all_middles, lie_inside}
 use Rattle.edge_middles.proofs.MiddlesFound.{squares, cubes, hypercubes, triangles, tetrahedra, four_simplices, pyramids}
-use Rattle.edge_middles.proofs.MiddlesFound.{squares_inside, cubes_inside, hypercubes_inside, triangles_inside, tetrahedra_inside, four_simplices_inside, pyramids_inside}
+use Rattle.edge_middles.proofs.MiddlesFound.{squares_inside, cubes_inside, hypercubes_inside}
+use Rattle.edge_middles.proofs.MiddlesFound.{triangles_inside, tetrahedra_inside, four_simplices_inside, pyramids_inside}
 
 all_found : (kind : Kind) (d : ℕ) → IsDimension d → HasDimension kind d → has_all_middles kind d ≡ true
 all_found = of_each_cell (λ kind d. has_all_middles kind d ≡ true) squares cubes hypercubes triangles tetrahedra four_simplices pyramids

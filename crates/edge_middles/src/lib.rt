@@ -3,8 +3,8 @@
 //! In `specs`: `Middles` says which midpoints the edges of a split can have; `MiddleTests` has a test of one cube that
 //! computes.
 //!
-//! In `proofs`: `MiddlesFound` computes that test for each split; `CubeMiddles` says by it that the cells of one cube have
-//! an edge at each point of the cube that can be a midpoint, and at no other.
+//! In `proofs`: `MiddlesFound` computes that test for each split; `CubeMiddles` says by it that the cells of one cube
+//! have an edge at each point of the cube that can be a midpoint, and at no other.
 #![tactic(auto)]
 
 ghost use Rattle.std.specs.Prelude.{ℕ};
