@@ -7,14 +7,19 @@ use Rattle.std.proofs.lemmas.Slice.Eq.{bytes_eq-Decides}
 use Rattle.std.specs.List.{list_all, list_any}
 use Rattle.std.specs.Prelude.{All, Bool, List, [], ◌∷◌, false, true, not, length, map, nat_le, suc, zero, ℕ, ◌&&◌, ◌≤◌, ◌==◌, ◌≡◌, if◌then◌else◌}
 use Rattle.iso_model.specs.declared.Kind.{Kind}
-use Rattle.iso_model.specs.Cells.{HasDimension}
+use Rattle.iso_model.specs.Cells.{HasDimension, edge_count}
+use Rattle.iso_model.specs.Splits.{Edge, cells_per_cube, midpoint}
+use Rattle.iso_model.specs.Bipolar.{same_edge}
 use Rattle.iso_model.specs.Dimensions.{IsDimension, of_each_cell}
 use Rattle.lists.specs.Members.{In}
 use Rattle.lists.specs.Orders.{numbers, same_list}
 use Rattle.lists.proofs.MemberLaws.{All-from_In, all_In, any_from, from_any, lists_equal, In-flat_map, In-map, In-numbers}
 use Rattle.lists.proofs.Tests.{and_left, and_right, equal_of}
 use Rattle.edge_middles.specs.Middles.{HasAllMiddles, cube_middles, is_middle}
-use Rattle.edge_middles.specs.MiddleTests.{cube_points, has_all_middles, lie_inside}
+use Rattle.edge_middles.proofs.MiddlesFound.{squares_at_middles, cubes_at_middles, hypercubes_at_middles, triangles_at_middles}
+use Rattle.edge_middles.proofs.MiddlesFound.{tetrahedra_at_middles, four_simplices_at_middles, pyramids_at_middles}
+use Rattle.edge_middles.specs.Middles.{HasEdgesAtMiddles, edge_at, edge_from}
+use Rattle.edge_middles.specs.MiddleTests.{edges_at_middles, cube_points, has_all_middles, lie_inside}
 use Rattle.edge_middles.proofs.MiddlesFound.{squares, cubes, hypercubes, triangles, tetrahedra, four_simplices, pyramids}
 use Rattle.edge_middles.proofs.MiddlesFound.{squares_inside, cubes_inside, hypercubes_inside}
 use Rattle.edge_middles.proofs.MiddlesFound.{triangles_inside, tetrahedra_inside, four_simplices_inside, pyramids_inside}
@@ -73,3 +78,23 @@ has_all kind d is fits m =
           (long, small, (by_test kind d m (is_middle kind m) refl (test m (in_cube d m long small))).0 there),
       λ can. (by_test kind d m (is_middle kind m) refl (test m (in_cube d m can.0 can.1))).1 can.2,
     )
+
+-- ---- edges by their midpoints
+
+all_at_middles : (kind : Kind) (d : ℕ) → IsDimension d → HasDimension kind d → edges_at_middles kind d ≡ true
+all_at_middles = of_each_cell (λ kind d. edges_at_middles kind d ≡ true) squares_at_middles cubes_at_middles hypercubes_at_middles triangles_at_middles
+    tetrahedra_at_middles four_simplices_at_middles pyramids_at_middles
+
+edges_equal : (a b : Edge) → same_edge a b ≡ true → a ≡ b
+edges_equal a b t =
+    let low = lists_equal a.low b.low (and_left (same_list a.low b.low) (same_list a.high b.high) t) in
+    let high = lists_equal a.high b.high (and_right (same_list a.low b.low) (same_list a.high b.high) t) in
+    λ i. record { low = low i; high = high i }
+
+pub edges_there : (kind : Kind) (d : ℕ) → IsDimension d → HasDimension kind d → HasEdgesAtMiddles kind d
+edges_there kind d is fits rank e low few =
+    let by_rank = all_In (λ r. list_all (λ n. same_edge (edge_at (midpoint (edge_from kind d r n))) (edge_from kind d r n)) (numbers (edge_count kind d)))
+    (numbers (cells_per_cube kind d)) (all_at_middles kind d is fits) rank (In-numbers (cells_per_cube kind d) rank low) in
+    edges_equal (edge_at (midpoint (edge_from kind d rank e))) (edge_from kind d rank e)
+    (all_In (λ n. same_edge (edge_at (midpoint (edge_from kind d rank n))) (edge_from kind d rank n)) (numbers (edge_count kind d)) by_rank e
+    (In-numbers (edge_count kind d) e few))

@@ -1,7 +1,7 @@
 -- The midpoints of the edges of one cube, found: in each split the cells of a cube have an edge at every point of the cube that can be a midpoint.
 use Rattle.std.proofs.Common.{◌≡◌, true, refl}
 use Rattle.iso_model.specs.declared.Kind.TheVariants.{Cube, Simplex, Pyramid}
-use Rattle.edge_middles.specs.MiddleTests.{has_all_middles, lie_inside}
+use Rattle.edge_middles.specs.MiddleTests.{edges_at_middles, has_all_middles, lie_inside}
 
 pub squares : has_all_middles Cube 2 ≡ true
 squares = refl
@@ -44,3 +44,24 @@ four_simplices_inside = refl
 
 pub pyramids_inside : lie_inside Pyramid 3 ≡ true
 pyramids_inside = refl
+
+pub squares_at_middles : edges_at_middles Cube 2 ≡ true
+squares_at_middles = refl
+
+pub cubes_at_middles : edges_at_middles Cube 3 ≡ true
+cubes_at_middles = refl
+
+pub hypercubes_at_middles : edges_at_middles Cube 4 ≡ true
+hypercubes_at_middles = refl
+
+pub triangles_at_middles : edges_at_middles Simplex 2 ≡ true
+triangles_at_middles = refl
+
+pub tetrahedra_at_middles : edges_at_middles Simplex 3 ≡ true
+tetrahedra_at_middles = refl
+
+pub four_simplices_at_middles : edges_at_middles Simplex 4 ≡ true
+four_simplices_at_middles = refl
+
+pub pyramids_at_middles : edges_at_middles Pyramid 3 ≡ true
+pyramids_at_middles = refl

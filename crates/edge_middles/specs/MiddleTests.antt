@@ -3,7 +3,10 @@ use Rattle.std.specs.Prelude.{ℕ, zero, suc, Bool, not, List, [], ◌∷◌, �
 use Rattle.std.specs.List.{list_all, list_any}
 use Rattle.iso_model.specs.declared.Kind.{Kind}
 use Rattle.lists.specs.Orders.{numbers, same_list}
-use Rattle.edge_middles.specs.Middles.{is_middle, cube_middles}
+use Rattle.iso_model.specs.Cells.{edge_count}
+use Rattle.iso_model.specs.Splits.{cells_per_cube, midpoint}
+use Rattle.iso_model.specs.Bipolar.{same_edge}
+use Rattle.edge_middles.specs.Middles.{edge_at, edge_from, is_middle, cube_middles}
 
 -- all points in quarter-units of one cube of d axes
 abbrev pub cube_points : ℕ → List (List ℕ)
@@ -19,3 +22,8 @@ has_all_middles kind d =
 -- the midpoints of the edges of the cells of a cube are points of the cube
 abbrev pub lie_inside : Kind → ℕ → Bool
 lie_inside kind d = list_all (λ m. (length m == d) && list_all (λ c. nat_le c 4) m) (cube_middles kind d)
+
+-- each edge of the cells of a cube is the edge at its midpoint
+abbrev pub edges_at_middles : Kind → ℕ → Bool
+edges_at_middles kind d = list_all (λ rank. list_all (λ e. same_edge (edge_at (midpoint (edge_from kind d rank e))) (edge_from kind d rank e))
+    (numbers (edge_count kind d))) (numbers (cells_per_cube kind d))

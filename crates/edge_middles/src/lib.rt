@@ -11,10 +11,11 @@ ghost use Rattle.std.specs.Prelude.{ℕ};
 ghost use Rattle.iso_model.specs.declared.Kind.{Kind};
 ghost use Rattle.iso_model.specs.Cells.{HasDimension};
 ghost use Rattle.iso_model.specs.Dimensions.{IsDimension};
-ghost use Rattle.edge_middles.specs.Middles.{HasAllMiddles};
+ghost use Rattle.edge_middles.specs.Middles.{HasAllMiddles, HasEdgesAtMiddles};
 
 /// The cells of a cube have an edge at each point of the cube that can be the midpoint of one, and at no other, in each
-/// split.
+/// split. Each edge is the one that its midpoint says.
 pub fn middles_law()
-    ensures law { (kind : Kind) (d : ℕ) → IsDimension d → HasDimension kind d → HasAllMiddles kind d }
+    ensures middles { (kind : Kind) (d : ℕ) → IsDimension d → HasDimension kind d → HasAllMiddles kind d }
+    ensures edges { (kind : Kind) (d : ℕ) → IsDimension d → HasDimension kind d → HasEdgesAtMiddles kind d }
 {}

@@ -1,5 +1,5 @@
-use Rattle.edge_middles.proofs.CubeMiddles.{has_all}
+use Rattle.edge_middles.proofs.CubeMiddles.{edges_there, has_all}
 use Rattle.edge_middles.proofs.middles_law.Goals as goal
 
 pub returns : goal.returns
-returns c = record { law = has_all }
+returns c = record { middles = has_all; edges = edges_there }
