@@ -1,2 +1,3 @@
 pub mod CubeMiddles
 pub mod MiddlesFound
+pub mod MovedMiddles

@@ -1,2 +1,3 @@
 pub mod MiddleTests
 pub mod Middles
+pub mod MovedEdges

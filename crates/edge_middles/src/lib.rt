@@ -1,21 +1,24 @@
 //! The edges of a grid by their midpoints: which of them there are.
 //!
-//! In `specs`: `Middles` says which midpoints the edges of a split can have; `MiddleTests` has a test of one cube that
-//! computes.
+//! In `specs`: `Middles` says which midpoints the edges of a split can have; `MovedEdges` moves
+//! points and edges by whole cubes; `MiddleTests` has a test of one cube that computes.
 //!
 //! In `proofs`: `MiddlesFound` computes that test for each split; `CubeMiddles` says by it that the cells of one cube
-//! have an edge at each point of the cube that can be a midpoint, and at no other.
+//! have an edge at each point of the cube that can be a midpoint, and at no other; `MovedMiddles` moves midpoints and
+//! edges by whole cubes.
 #![tactic(auto)]
 
-ghost use Rattle.std.specs.Prelude.{ℕ};
+ghost use Rattle.std.specs.Prelude.{ℕ, List};
 ghost use Rattle.iso_model.specs.declared.Kind.{Kind};
 ghost use Rattle.iso_model.specs.Cells.{HasDimension};
 ghost use Rattle.iso_model.specs.Dimensions.{IsDimension};
 ghost use Rattle.edge_middles.specs.Middles.{HasAllMiddles, HasEdgesAtMiddles};
+ghost use Rattle.edge_middles.specs.MovedEdges.{MovesEdges};
 
 /// The cells of a cube have an edge at each point of the cube that can be the midpoint of one, and at no other, in each
-/// split. Each edge is the one that its midpoint says.
+/// split. Each edge is the one that its midpoint says, and where a midpoint is moved by whole cubes, so is its edge.
 pub fn middles_law()
     ensures middles { (kind : Kind) (d : ℕ) → IsDimension d → HasDimension kind d → HasAllMiddles kind d }
     ensures edges { (kind : Kind) (d : ℕ) → IsDimension d → HasDimension kind d → HasEdgesAtMiddles kind d }
+    ensures moved { (x middle : List ℕ) → MovesEdges x middle }
 {}

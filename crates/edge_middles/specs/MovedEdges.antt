@@ -1,0 +1,18 @@
+-- Points and edges that are moved by whole cubes.
+use Rattle.std.specs.Prelude.{ℕ, ◌+◌, ◌*◌, ◌≡◌, List, [], ◌∷◌, length}
+use Rattle.iso_model.specs.Splits.{Edge}
+use Rattle.edge_middles.specs.Middles.{edge_at}
+
+-- a point that is moved by the place of a cube, where a cube is k long along each axis
+abbrev pub moved : ℕ → List ℕ → List ℕ → List ℕ
+moved k [] p = []
+moved k (c ∷ x) [] = []
+moved k (c ∷ x) (m ∷ p) = (k * c + m) ∷ moved k x p
+
+-- an edge that is moved by the place of a cube, in half-units
+abbrev pub moved_edge : List ℕ → Edge → Edge
+moved_edge x e = record { low = moved 2 x e.low; high = moved 2 x e.high }
+
+-- the edge of a midpoint that is moved, in quarter-units, is the edge of the midpoint, moved
+abbrev pub MovesEdges : List ℕ → List ℕ → Type 0
+MovesEdges x middle = length x ≡ length middle → edge_at (moved 4 x middle) ≡ moved_edge x (edge_at middle)
