@@ -1,3 +1,4 @@
 pub mod CubeMiddles
+pub mod GridEdges
 pub mod MiddlesFound
 pub mod MovedMiddles

@@ -58,7 +58,7 @@ chosen : (x p q : List ℕ) (t : Bool) → (if t then record { low = moved 2 x p
 chosen x p q true = refl
 chosen x p q false = refl
 
-ends_moved : (x p q : List ℕ) → length p ≡ length x → length q ≡ length x → edge_of_ends (moved 2 x p) (moved 2 x q) ≡ moved_edge x (edge_of_ends p q)
+pub ends_moved : (x p q : List ℕ) → length p ≡ length x → length q ≡ length x → edge_of_ends (moved 2 x p) (moved 2 x q) ≡ moved_edge x (edge_of_ends p q)
 ends_moved x p q e h =
     ap (λ t. if t then record { low = moved 2 x p; high = moved 2 x q } else record { low = moved 2 x q; high = moved 2 x p }) (first_moved x p q e h)
     ∙ chosen x p q (comes_first p q)

@@ -1,7 +1,8 @@
 -- Points and edges that are moved by whole cubes.
 use Rattle.std.specs.Prelude.{ℕ, ◌+◌, ◌*◌, ◌≡◌, List, [], ◌∷◌, length}
-use Rattle.iso_model.specs.Splits.{Edge}
-use Rattle.edge_middles.specs.Middles.{edge_at}
+use Rattle.iso_model.specs.declared.Kind.{Kind}
+use Rattle.iso_model.specs.Splits.{Edge, cube_of, edge, rank_of}
+use Rattle.edge_middles.specs.Middles.{edge_at, edge_from}
 
 -- a point that is moved by the place of a cube, where a cube is k long along each axis
 abbrev pub moved : ℕ → List ℕ → List ℕ → List ℕ
@@ -16,3 +17,8 @@ moved_edge x e = record { low = moved 2 x e.low; high = moved 2 x e.high }
 -- the edge of a midpoint that is moved, in quarter-units, is the edge of the midpoint, moved
 abbrev pub MovesEdges : List ℕ → List ℕ → Type 0
 MovesEdges x middle = length x ≡ length middle → edge_at (moved 4 x middle) ≡ moved_edge x (edge_at middle)
+
+-- the edges of the cells of a grid are those of the cells of one cube, moved by the places of cubes
+abbrev pub AreMovedEdges : Kind → List ℕ → Type 0
+AreMovedEdges kind sizes =
+    (cell e : ℕ) → edge kind sizes cell e ≡ moved_edge (cube_of kind sizes cell) (edge_from kind (length sizes) (rank_of kind sizes cell) e)

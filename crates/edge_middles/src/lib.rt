@@ -5,20 +5,22 @@
 //!
 //! In `proofs`: `MiddlesFound` computes that test for each split; `CubeMiddles` says by it that the cells of one cube
 //! have an edge at each point of the cube that can be a midpoint, and at no other; `MovedMiddles` moves midpoints and
-//! edges by whole cubes.
+//! edges by whole cubes, and `GridEdges` says that the edges of a grid are such.
 #![tactic(auto)]
 
-ghost use Rattle.std.specs.Prelude.{ℕ, List};
+ghost use Rattle.std.specs.Prelude.{ℕ, List, length};
 ghost use Rattle.iso_model.specs.declared.Kind.{Kind};
 ghost use Rattle.iso_model.specs.Cells.{HasDimension};
 ghost use Rattle.iso_model.specs.Dimensions.{IsDimension};
 ghost use Rattle.edge_middles.specs.Middles.{HasAllMiddles, HasEdgesAtMiddles};
-ghost use Rattle.edge_middles.specs.MovedEdges.{MovesEdges};
+ghost use Rattle.edge_middles.specs.MovedEdges.{AreMovedEdges, MovesEdges};
 
 /// The cells of a cube have an edge at each point of the cube that can be the midpoint of one, and at no other, in each
-/// split. Each edge is the one that its midpoint says, and where a midpoint is moved by whole cubes, so is its edge.
+/// split. Each edge is the one that its midpoint says, and where a midpoint is moved by whole cubes, so is its edge;
+/// the edges of a grid's cells are those of one cube, moved.
 pub fn middles_law()
     ensures middles { (kind : Kind) (d : ℕ) → IsDimension d → HasDimension kind d → HasAllMiddles kind d }
     ensures edges { (kind : Kind) (d : ℕ) → IsDimension d → HasDimension kind d → HasEdgesAtMiddles kind d }
     ensures moved { (x middle : List ℕ) → MovesEdges x middle }
+    ensures grids { (kind : Kind) (sizes : List ℕ) → HasDimension kind (length sizes) → AreMovedEdges kind sizes }
 {}
