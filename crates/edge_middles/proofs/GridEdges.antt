@@ -2,7 +2,8 @@
 use Rattle.std.proofs.Common.{ap, arith, refl, sym, ◌∙◌}
 use Rattle.std.specs.List.{range_with_len}
 use Rattle.std.specs.Int.{bit_at}
-use Rattle.std.specs.Prelude.{Bool, List, [], ◌∷◌, count_by, false, true, length, map, nat_eq, nat_lt, slice_index, suc, take, zero, ℕ, ◌*◌, ◌+◌, ◌/◌, ◌-◌, ◌==◌, ◌≡◌, if◌then◌else◌}
+use Rattle.std.specs.Prelude.{Bool, List, [], ◌∷◌, count_by, false, true, length, map, nat_eq, nat_lt}
+use Rattle.std.specs.Prelude.{slice_index, suc, take, zero, ℕ, ◌*◌, ◌+◌, ◌/◌, ◌-◌, ◌==◌, ◌≡◌, if◌then◌else◌}
 use Rattle.iso_model.specs.declared.Kind.{Kind}
 use Rattle.iso_model.specs.declared.Kind.TheVariants.{Cube, Simplex, Pyramid}
 use Rattle.iso_model.specs.Cells.{HasDimension, edge_ends}
@@ -27,7 +28,7 @@ point_moved (suc n) (c ∷ x) (k ∷ o) e h =
     ∙ rest in
     ap (λ (ys : List ℕ). (2 * c + k) ∷ ys) tail
 
-long_cube : (sizes : List ℕ) (n : ℕ) → length (cube_at sizes n) ≡ length sizes
+pub long_cube : (sizes : List ℕ) (n : ℕ) → length (cube_at sizes n) ≡ length sizes
 long_cube [] n = refl
 long_cube (s ∷ sizes) n = ap suc (long_cube sizes (n / (s - 1)))
 

@@ -1,4 +1,5 @@
 pub mod CubeMiddles
 pub mod GridEdges
+pub mod GridMidpoints
 pub mod MiddlesFound
 pub mod MovedMiddles
