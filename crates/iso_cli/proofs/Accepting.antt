@@ -8,7 +8,7 @@ use Rattle.iso_cli.specs.declared.checked.CheckedTable.{CheckedTable}
 use Rattle.iso_cli.specs.declared.status.Status.{Status}
 use Rattle.iso_cli.specs.declared.status.Status.TheVariants as Statuses
 use Rattle.iso_cli.specs.Checked.{IsRefusalOf, checked_in}
-use Rattle.iso_cli.specs.Refusals.{FileHas, HoldsAccepted, HoldsTable, IsFileOf, IsRefusedFile, IsRefusedForm, IsRefusedTable, by_form, by_rule, not_accepted}
+use Rattle.iso_cli.specs.Refusals.{FileHas, HoldsAccepted, HoldsTable, IsFileOf, IsRefusedTable, by_rule, not_accepted}
 use Rattle.iso_cli.specs.Shelves.{BlamesShelf}
 use Rattle.iso_cli.specs.Statuses.{IsDecided, IsOfTable, IsShelfFault}
 use Rattle.iso_cli.proofs.Refusing.{file_map}

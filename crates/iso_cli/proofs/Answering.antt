@@ -141,7 +141,7 @@ not_refused (Some files) (extract_command table grid iso) status stops told hold
     not_refused_mesh files table grid holds.0 holds.1 status stops holds.2 refused
 not_refused (Some files) (demo_command kind d size seed) status stops told holds refused = holds
 
-decided_answer : (files : Option Files) (words : List (List ℕ)) (status : Status) → IsDecided status → IsTrueAnswer files words status
+pub decided_answer : (files : Option Files) (words : List (List ℕ)) (status : Status) → IsDecided status → IsTrueAnswer files words status
     → SayBuilt words (IsTrueOf files status)
 decided_answer files words (Statuses.Usage place) decided true_of = absurd decided
 decided_answer files words _ decided true_of = true_of

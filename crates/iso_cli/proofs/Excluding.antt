@@ -87,7 +87,7 @@ no_count_passes bytes whole c =
     some on.rest c.passes
 
 -- a whole table has no fault
-no_fault : (bytes : List ℕ) (fault : TableFault) → WrongEdgesStop → IsWholeTable bytes → HasTableFault bytes fault → ⊥
+pub no_fault : (bytes : List ℕ) (fault : TableFault) → WrongEdgesStop → IsWholeTable bytes → HasTableFault bytes fault → ⊥
 no_fault bytes (magic_fault p) stops whole has = has.0.stopped (front_begins bytes (p + 1) whole)
 no_fault bytes (kind_fault p) stops whole has = has.0.stopped (front_begins bytes (p + 1) whole)
 no_fault bytes (edge_fault p) stops whole has = (stops bytes p has).0.stopped (front_begins bytes (p + 1) whole)
@@ -99,7 +99,7 @@ no_fault bytes (extra_fault p) stops whole has =
     omega (arith, ap (λ (l : List ℕ). length l) none, length-drop p bytes, has.0)
 
 -- the file of a table is not refused by its form
-not_refused_form : (bytes : List ℕ) (t : Table) (status : Status) → WrongEdgesStop → IsFileOf bytes t → IsRefusedForm bytes status → ⊥
+pub not_refused_form : (bytes : List ℕ) (t : Table) (status : Status) → WrongEdgesStop → IsFileOf bytes t → IsRefusedForm bytes status → ⊥
 not_refused_form bytes t _ stops hold (too_long long) = hold.few long
 not_refused_form bytes t _ stops hold (no_table fault few has) = no_fault bytes fault stops (t, hold.spelled) has
 
@@ -116,7 +116,7 @@ not_refused_table bytes t status stops hold accepted (by_rule refused) = not_ref
 -- ---- grids
 
 -- bytes begin with one header at most
-one_head : (bytes : List ℕ) (h k : Header) (x y : List ℕ) → HasHeader bytes h x → HasHeader bytes k y → (h ≡ k) × (x ≡ y)
+pub one_head : (bytes : List ℕ) (h k : Header) (x y : List ℕ) → HasHeader bytes h x → HasHeader bytes k y → (h ≡ k) × (x ≡ y)
 one_head bytes h k x y a b =
     let same = one_header bytes a.0 b.0 x y a.1 b.1 in
     (one_spelling b.0 h k (subst (λ (ts : List (List ℕ)). SpellHeader ts h) same.0 a.2) b.2, same.1)
@@ -139,7 +139,7 @@ not_refused_grid d bytes g _ spelled fits (no_samples k y fault q own has) =
 -- ---- the files
 
 -- what two facts say of the file of a name, they say of the same bytes
-both_have : (files : Files) (name : List ℕ) (P Q : List ℕ → Type 0) → FileHas (Some files) name P → FileHas (Some files) name Q
+pub both_have : (files : Files) (name : List ℕ) (P Q : List ℕ → Type 0) → FileHas (Some files) name P → FileHas (Some files) name Q
     → (bytes : List ℕ) × P bytes × Q bytes
 both_have files name P Q p q = (p.0, p.2, subst Q (sym (same_Some p.0 q.0 (sym p.1 ∙ q.1))) q.2)
 

@@ -1,7 +1,9 @@
 pub mod FileTaking
 pub mod Refusing
+pub mod Interrupting
 pub mod Accepting
 pub mod Putting
 pub mod Excluding
 pub mod Answering
+pub mod OneRefusal
 pub mod TextSurfaces

@@ -4,6 +4,8 @@ pub mod Statuses
 pub mod Checked
 pub mod Shelves
 pub mod Refusals
+pub mod Rests
 pub mod Outputs
 pub mod Meanings
 pub mod Runs
+pub mod OneAnswer

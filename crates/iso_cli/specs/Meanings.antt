@@ -7,13 +7,16 @@ use Rattle.iso_model.specs.Values.{Grid}
 use Rattle.iso_cli.specs.declared.status.Status.{Status}
 use Rattle.iso_cli.specs.Outputs.{IsAcceptance, IsGenerated, IsMeshText}
 use Rattle.iso_cli.specs.Refusals.{HoldBoth, HoldsAccepted, IsRefusedFile, IsRefusedMesh, IsRefusedTable, LacksMeshFile}
+use Rattle.iso_cli.specs.Rests.{LeavesMeshFile, LeavesTableFile}
 
 -- what a command reads, needs, refuses and puts: the names of its files; that the files hold what it needs; that they are refused with a status;
--- that one that it names is not there, and none is refused that is read before it; and that a text is its whole output
+-- what is left after that of the file that was read last; that one that it names is not there, and none is refused that is read before it; and that a
+-- text is its whole output
 pub record Meaning : Type 1 where
   pub reads : List (List ℕ)
   pub needs : Option Files → Type 0
   pub refuses : Option Files → Status → Type 0
+  pub leaves : Option Files → Status → Option (List ℕ) → Type 0
   pub lacks : Option Files → Type 0
   pub puts : Option Files → List ℕ → Type 0
 
@@ -23,6 +26,7 @@ without_files IsText = record {
   reads = [];
   needs = λ files. ⊤;
   refuses = λ files status. ⊥;
+  leaves = λ files status rest. ⊤;
   lacks = λ files. ⊥;
   puts = λ files text. IsText text;
 }
@@ -33,6 +37,7 @@ unbuilt = record {
   reads = [];
   needs = λ files. ⊥;
   refuses = λ files status. ⊥;
+  leaves = λ files status rest. ⊤;
   lacks = λ files. ⊥;
   puts = λ files text. ⊥;
 }
@@ -45,6 +50,7 @@ meaning (check_command table) = record {
   reads = table ∷ [];
   needs = λ files. (t : Table) × HoldsAccepted files table t;
   refuses = λ files status. IsRefusedFile files table IsRefusedTable status;
+  leaves = λ files status rest. LeavesTableFile files table rest status;
   lacks = λ files. bytes_of files table ≡ None;
   puts = λ files text. IsAcceptance files table text;
 }
@@ -53,6 +59,7 @@ meaning (extract_command table grid iso) = record {
   reads = table ∷ grid ∷ [];
   needs = λ files. (t : Table) × (g : Grid) × HoldBoth files table grid t g;
   refuses = λ files status. IsRefusedMesh files table grid status;
+  leaves = λ files status rest. LeavesMeshFile files table grid rest status;
   lacks = λ files. LacksMeshFile files table grid;
   puts = λ files text. IsMeshText files table grid iso text;
 }

@@ -16,7 +16,7 @@ use Rattle.iso_formats.specs.MeshText.{mesh_text}
 use Rattle.iso_model.specs.Placed.{placed_mesh}
 use Rattle.iso_formats.specs.TableFile.{table_bytes}
 use Rattle.iso_model.specs.Tables.{Table}
-use Rattle.iso_model.specs.Values.{Grid, Volume, volume}
+use Rattle.iso_model.specs.Values.{Grid, IsRegularGrid, Volume, volume}
 use Rattle.iso_cli.specs.declared.status.Status.{Status}
 use Rattle.iso_cli.specs.declared.status.Status.TheVariants as Statuses
 use Rattle.iso_cli.specs.Refusals.{HoldBoth, HoldsAccepted}
@@ -58,6 +58,7 @@ pub record IsMeshText (files : Option Files) (table grid : List ℕ) (iso : ℤ)
   pub t : Table
   pub g : Grid
   pub held : HoldBoth files table grid t g
+  pub regular : IsRegularGrid g
   pub spelled : text ≡ placed_text t g iso
   pub surface : IsIsosurface (volume t.kind g iso None) (placed_mesh (volume t.kind g iso None) t)
   pub outer : HasOuterBoundary (volume t.kind g iso None) (placed_mesh (volume t.kind g iso None) t).simplices

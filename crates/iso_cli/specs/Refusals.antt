@@ -8,7 +8,7 @@ use Rattle.iso_formats.specs.GridFaults.{repeated_field, wrong_type, wrong_dimen
 use Rattle.iso_formats.specs.GridFaults.{detached_data, missing_field, sizes_too_large, data_too_short, data_trailing}
 use Rattle.iso_model.specs.Tables.{Table, IsTable}
 use Rattle.iso_formats.specs.TableFile.{IsTooLong, SpellsTable, TableFault, HasTableFault, magic_fault, kind_fault, edge_fault, short_fault, extra_fault}
-use Rattle.iso_model.specs.Values.{Grid, IsRegularGrid}
+use Rattle.iso_model.specs.Values.{Grid}
 use Rattle.iso_cli.specs.declared.status.Status.{Status}
 use Rattle.iso_cli.specs.declared.status.Status.TheVariants as Statuses
 use Rattle.iso_cli.specs.declared.status.TableForm.TheVariants as Forms
@@ -101,7 +101,6 @@ pub data IsRefusedGrid (d : ℕ) (bytes : List ℕ) : Status → Type 0 where
 pub record HoldBoth (files : Option Files) (table_name grid_name : List ℕ) (t : Table) (g : Grid) : Type 0 where
   pub table : HoldsAccepted files table_name t
   pub grid : FileHas files grid_name (λ bytes. SpellsGrid bytes g)
-  pub regular : IsRegularGrid g
   pub fits : t.dimension ≡ length g.sizes
 
 -- a mesh is refused: its table file is, or that holds an accepted table, and then the grid file is refused for it

@@ -70,6 +70,10 @@ pub record LeavesShelf {S : Type 0} (faults : S → ℕ) (files : S → Option F
 abbrev pub ServesWell : {S : Type 0} → (S → ℕ) → (S → Option Files) → (S → Type 0) → List (List ℕ) → S → S → Type 0
 ServesWell faults files sound words old new = ¬ Rose (faults old) (faults new) ⊎ (sound old × HasNamedFiles (files old) words)
 
+-- what is left, after a command was refused, of the file that was read last
+abbrev pub LeavesRest : Option Files → Status → Option (List ℕ) → Command → Type 0
+LeavesRest files status rest command = (meaning command).leaves files status rest
+
 -- ---- the output
 
 -- the whole output of a command

@@ -9,6 +9,7 @@ ghost use Rattle.table_file.specs.Reading.{table_in};
 ghost use Rattle.iso_cli.specs.Checked.{checked_in};
 ghost use Rattle.iso_cli.specs.Refusals.{FileHas, HoldBoth, HoldsAccepted, HoldsTable, LacksMeshFile};
 ghost use Rattle.iso_cli.specs.Refusals.{IsRefusedFile, IsRefusedForm, IsRefusedGrid, IsRefusedMesh, IsRefusedTable};
+ghost use Rattle.iso_cli.specs.Rests.{LeavesGridFile, LeavesMeshFile, LeavesTableFile};
 ghost use Rattle.iso_cli.specs.Shelves.{BlamesShelf, FailsOnlyFor};
 ghost use Rattle.iso_cli.specs.Statuses.{IfDecided, IsOfFiles, IsOfForm, IsOfGrid, IsOfTable};
 
@@ -30,6 +31,7 @@ fn read_table<S: Shelf>(alloc: Global, shelf: &mut S, name: &str) -> Result<AnyT
     ensures missing { FailsOnlyFor (bytes_of (S.files shelf.old) name.now ≡ None) (S.sound shelf.old) result }
     ensures kinds { IfErr result IsOfForm }
     ensures refused { IfDecided result (IsRefusedFile (S.files shelf.old) name.now IsRefusedForm) }
+    ensures left { IfErr result (LeavesTableFile (S.files shelf.old) name.now (S.rest shelf.new)) }
     ensures held { IfOk result (λ table. HoldsTable (S.files shelf.old) name.now (table_in table)) }
 {
     shelf.begin(name)?;
@@ -51,6 +53,7 @@ pub fn read_checked<S: Shelf>(
     ensures missing { FailsOnlyFor (bytes_of (S.files shelf.old) name.now ≡ None) (S.sound shelf.old) result }
     ensures kinds { IfErr result IsOfTable }
     ensures refused { IfDecided result (IsRefusedFile (S.files shelf.old) name.now IsRefusedTable) }
+    ensures left { IfErr result (LeavesTableFile (S.files shelf.old) name.now (S.rest shelf.new)) }
     ensures held { IfOk result (λ table. HoldsAccepted (S.files shelf.old) name.now (checked_in table)) }
 {
     let table = read_table(alloc, shelf, name)?;
@@ -69,6 +72,7 @@ fn read_grid<S: Shelf>(
     ensures missing { FailsOnlyFor (bytes_of (S.files shelf.old) name.now ≡ None) (S.sound shelf.old) result }
     ensures kinds { IfErr result IsOfGrid }
     ensures refused { IfDecided result (IsRefusedFile (S.files shelf.old) name.now (IsRefusedGrid dimension)) }
+    ensures left { IfErr result (LeavesGridFile (S.files shelf.old) name.now dimension (S.rest shelf.new)) }
     ensures held { IfOk result (λ grid. FileHas (S.files shelf.old) name.now (λ bytes. SpellsGrid bytes grid)) }
     ensures fits { IfOk result (λ grid. dimension ≡ length grid.sizes) }
     ensures regular { IfOk result IsRegularGrid }
@@ -97,7 +101,9 @@ pub fn read_both<S: Shelf>(
     ensures missing { FailsOnlyFor (LacksMeshFile (S.files shelf.old) table.now grid.now) (S.sound shelf.old) result }
     ensures kinds { IfErr result IsOfFiles }
     ensures refused { IfDecided result (IsRefusedMesh (S.files shelf.old) table.now grid.now) }
+    ensures left { IfErr result (LeavesMeshFile (S.files shelf.old) table.now grid.now (S.rest shelf.new)) }
     ensures held { IfOk result (λ both. HoldBoth (S.files shelf.old) table.now grid.now (checked_in both.0) both.1) }
+    ensures regular { IfOk result (λ both. IsRegularGrid both.1) }
 {
     let table = read_checked(alloc, shelf, table)?;
     let grid = read_grid(alloc, shelf, grid, dimension(&table))?;

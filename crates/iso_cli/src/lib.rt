@@ -3,12 +3,14 @@
 
 mod checked;
 mod files;
+mod laws;
 mod line;
 mod output;
 mod program;
 mod read;
 mod status;
 
+pub use laws::one_answer_law;
 pub use line::status_text;
 pub use program::run;
 pub use status::{GridCause, Status, TableCause, TableForm};

@@ -3,10 +3,10 @@
 ghost use Rattle.std.specs.Prelude.{◌≡◌, ◌^◌, ◌≤◌, IsSome, unsigned_abs};
 ghost use Rattle.iso_base.specs.Faults.{Rose};
 ghost use Rattle.iso_formats.specs.Commands.{check_command, extract_command};
-ghost use Rattle.iso_words.specs.Built.{texts};
+ghost use Rattle.iso_words.specs.Built.{EachSaid, texts};
 ghost use Rattle.iso_cli.specs.Outputs.{LeavesOutput};
 ghost use Rattle.iso_cli.specs.Runs.{HoldNeeded, IsAnswerable, IsOutput, IsTrueAnswer, IsTrueOf, LacksFile, SayBuilt};
-ghost use Rattle.iso_cli.specs.Runs.{LeavesShelf, NeedsNoFile, PutsLine, ServesWell};
+ghost use Rattle.iso_cli.specs.Runs.{LeavesRest, LeavesShelf, NeedsNoFile, PutsLine, ServesWell};
 ghost use Rattle.iso_cli.specs.Statuses.{IsDoneOrMemory, IsUsage};
 
 use crate::files::{read_both, read_checked};
@@ -46,6 +46,9 @@ pub fn run<S: Shelf, O: Sink, E: Sink>(
         (SayBuilt (texts words.now) (LacksFile (S.files shelf.old))) result shelf.old shelf.new }
     ensures output { LeavesOutput O.faults O.bytes
         (λ text. SayBuilt (texts words.now) (IsOutput (S.files shelf.old) text)) result out.old out.new }
+    // A table file that is too long is left behind the first byte past the limit, and a grid file that is refused by
+    // its dimension or its size behind its header.
+    ensures left { EachSaid (texts words.now) (LeavesRest (S.files shelf.old) result (S.rest shelf.new)) }
     // A command that reads no file, as that which generates a table, leaves the shelf alone.
     ensures generated { NeedsNoFile (texts words.now) result shelf.old shelf.new }
 
@@ -68,6 +71,7 @@ fn perform<S: Shelf, O: Sink>(alloc: Global, words: &[String], shelf: &mut S, ou
         (SayBuilt (texts words.now) (LacksFile (S.files shelf.old))) result shelf.old shelf.new }
     ensures output { LeavesOutput O.faults O.bytes
         (λ text. SayBuilt (texts words.now) (IsOutput (S.files shelf.old) text)) result out.old out.new }
+    ensures left { EachSaid (texts words.now) (LeavesRest (S.files shelf.old) result (S.rest shelf.new)) }
     ensures generated { NeedsNoFile (texts words.now) result shelf.old shelf.new }
 {
     match parse(words) {
@@ -86,6 +90,7 @@ fn check<S: Shelf, O: Sink>(alloc: Global, table: &str, shelf: &mut S, out: &mut
         (LacksFile (S.files shelf.old) (check_command table.now)) result shelf.old shelf.new }
     ensures output { LeavesOutput O.faults O.bytes
         (λ text. IsOutput (S.files shelf.old) text (check_command table.now)) result out.old out.new }
+    ensures left { LeavesRest (S.files shelf.old) result (S.rest shelf.new) (check_command table.now) }
 {
     match read_checked(alloc, shelf, table) {
         Ok(_) => put_accepted(out),
@@ -109,6 +114,7 @@ fn extract<S: Shelf, O: Sink>(
         (LacksFile (S.files shelf.old) (extract_command table.now grid.now iso)) result shelf.old shelf.new }
     ensures output { LeavesOutput O.faults O.bytes
         (λ text. IsOutput (S.files shelf.old) text (extract_command table.now grid.now iso)) result out.old out.new }
+    ensures left { LeavesRest (S.files shelf.old) result (S.rest shelf.new) (extract_command table.now grid.now iso) }
 {
     match read_both(alloc, shelf, table, grid) {
         Ok((table, grid)) => put_mesh(alloc, &table, &grid, iso, out),

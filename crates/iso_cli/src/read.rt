@@ -1,8 +1,9 @@
 //! Files of a shelf, read up to a limit.
 
 ghost use Rattle.std.specs.Prelude.{◌≡◌, ◌≤◌, length, IfOk, IfErr};
+ghost use Rattle.std.specs.Io.KnownBytes.{Consumes};
 ghost use Rattle.iso_base.specs.Shelves.{IsSameShelf, TakesAtMost};
-ghost use Rattle.iso_cli.specs.Shelves.{BlamesShelf, AreFrontOf};
+ghost use Rattle.iso_cli.specs.Shelves.{BlamesShelf, BlamesBefore, AreFrontOf};
 ghost use Rattle.iso_cli.specs.Statuses.{IsOfReading, IsShelfFault};
 
 use crate::status::Status;
@@ -19,6 +20,8 @@ pub fn read_front<S: Shelf>(alloc: Global, shelf: &mut S, most: usize) -> Result
     ensures sound { S.sound shelf.old → IfErr result (λ status. ¬ IsShelfFault status) }
     ensures refused { IfErr result IsOfReading }
     ensures taken { TakesAtMost most (S.rest shelf.old) (S.rest shelf.new) }
+    ensures undecided { IfErr result (BlamesBefore most (S.rest shelf.old) (S.rest shelf.new)) }
+    ensures came { IfOk result (λ bytes. Consumes (S.rest shelf.old) (S.rest shelf.new) bytes.items) }
     ensures front { IfOk result (λ bytes. AreFrontOf most (S.rest shelf.old) bytes.items) }
     ensures few { IfOk result (λ bytes. length bytes.items ≤ most) }
 {

@@ -201,7 +201,7 @@ fn check(rt: &impl Abort, alloc: Global, number: usize, case: &Case) -> Result<(
     let words = words_of(alloc, case.words)?;
     let mut shelf = shelf_of(alloc, case)?;
     let fails = Vec::from_slice(alloc, case.out_fails)?;
-    let mut out = MemSink::new(alloc, 1000, fails, case.out_step.max(1))?;
+    let mut out = MemSink::new(alloc, 2000, fails, case.out_step.max(1))?;
     let mut err = MemSink::new(alloc, 1000, Vec::new(alloc), 10)?;
     let status = run(alloc, words.as_slice(), &mut shelf, &mut out, &mut err);
     assert_eq!(rt; status, case.status, "case {number}");
@@ -429,6 +429,35 @@ fn each_call_of_the_shelf_may_fail(rt: HostRuntime) -> Result<(), Fail> {
             ..extracts(HEADER, &[10, 0, 0, 0], FIRST)
         };
         check(&rt, rt.alloc(), calls as usize, &case)?;
+    }
+    Ok(())
+}
+
+// Over a standard error of which each call fails, the status and the output are as without.
+#[test]
+fn a_failing_error_stream_changes_nothing(rt: HostRuntime) -> Result<(), Fail> {
+    let alloc = rt.alloc();
+    let gzip = "NRRD0001\ntype: uint8\ndimension: 2\nsizes: 2 2\nencoding: gzip\n\n";
+    let cases = [
+        extracts(HEADER, &[10, 0, 0, 0], FIRST),
+        refuses(
+            WORDS,
+            gzip,
+            &[10, 0, 0, 0],
+            Status::GridForm(GridCause::Encoding(5)),
+            "",
+        ),
+    ];
+    for (number, case) in cases.iter().enumerate() {
+        let words = words_of(alloc, case.words)?;
+        let mut shelf = shelf_of(alloc, case)?;
+        let mut out = MemSink::new(alloc, 1000, Vec::new(alloc), 10)?;
+        let fails = Vec::from_slice(alloc, &[0, 1, 2, 3])?;
+        let mut err = MemSink::new(alloc, 1000, fails, 10)?;
+        let status = run(alloc, words.as_slice(), &mut shelf, &mut out, &mut err);
+        assert_eq!(rt; status, case.status, "case {number}");
+        assert_eq!(rt; out.bytes(), case.out.as_bytes(), "case {number}");
+        assert_eq!(rt; err.bytes(), [].as_slice(), "case {number}");
     }
     Ok(())
 }

@@ -308,6 +308,52 @@ const HYPERCORNER: &str = "nOFF
 4 0 1 2 3
 ";
 
+// The mesh round the first corner of a hypercube that is split into 24 simplices: a vertex on each edge of the corner, by
+// the set of axes in which it advances, and a tetrahedron for each order of the axes, turned where the order is odd.
+const PENTACHORA: &str = "nOFF
+4
+15 24 0
+0.500000 0.000000 0.000000 0.000000
+0.000000 0.500000 0.000000 0.000000
+0.500000 0.500000 0.000000 0.000000
+0.000000 0.000000 0.500000 0.000000
+0.500000 0.000000 0.500000 0.000000
+0.000000 0.500000 0.500000 0.000000
+0.500000 0.500000 0.500000 0.000000
+0.000000 0.000000 0.000000 0.500000
+0.500000 0.000000 0.000000 0.500000
+0.000000 0.500000 0.000000 0.500000
+0.500000 0.500000 0.000000 0.500000
+0.000000 0.000000 0.500000 0.500000
+0.500000 0.000000 0.500000 0.500000
+0.000000 0.500000 0.500000 0.500000
+0.500000 0.500000 0.500000 0.500000
+4 0 2 6 14
+4 0 2 14 10
+4 0 4 14 6
+4 0 4 12 14
+4 0 8 10 14
+4 0 8 14 12
+4 1 2 14 6
+4 1 2 10 14
+4 1 5 6 14
+4 1 5 14 13
+4 1 9 14 10
+4 1 9 13 14
+4 3 4 6 14
+4 3 4 14 12
+4 3 5 14 6
+4 3 5 13 14
+4 3 11 12 14
+4 3 11 14 13
+4 7 8 14 10
+4 7 8 12 14
+4 7 9 10 14
+4 7 9 14 13
+4 7 11 14 12
+4 7 11 13 14
+";
+
 #[test]
 fn made_tables_place_meshes(rt: HostRuntime) -> Result<(), Fail> {
     let alloc = rt.alloc();
@@ -342,6 +388,15 @@ fn made_tables_place_meshes(rt: HostRuntime) -> Result<(), Fail> {
         check(&rt, alloc, number, &case)?;
     }
     Ok(())
+}
+
+#[test]
+fn simplices_of_four_dimensions_place_a_mesh(rt: HostRuntime) -> Result<(), Fail> {
+    let alloc = rt.alloc();
+    let table = made(&rt, alloc, "generate kind=simplex dim=4")?;
+    let samples = [10, 0, 0, 0, 0, 0, 0, 0, 0, 0, 0, 0, 0, 0, 0, 0];
+    let case = extracts(HYPERSPACE, &samples, PENTACHORA);
+    check(&rt, alloc, 0, &by_table(table.as_slice(), case))
 }
 
 // The case with another table.

@@ -1,14 +1,16 @@
 use Rattle.std.proofs.Common.{◌≡◌, ◌≢◌, length, subst, sym, ap, ◌∙◌}
 use Rattle.iso_formats.specs.GridFile.{SpellsGrid, SpellsSamples, Header}
 use Rattle.iso_formats.specs.GridFaults.{HasHeaderFault, HasSampleFault}
-use Rattle.std.specs.Prelude.{IfSome}
+use Rattle.std.specs.Prelude.{Err, IfSome}
 use Rattle.nrrd_raw.specs.FaultCauses.{cause_of}
 use Rattle.nrrd_raw.specs.Shapes.{axes-stated}
 use Rattle.iso_cli.specs.declared.status.Status.{Status}
 use Rattle.iso_cli.specs.declared.status.Status.TheVariants.{Unfit}
 use Rattle.iso_cli.specs.StatusCauses.{grid_status}
 use Rattle.iso_cli.specs.Refusals.{FileHas, IsRefusedGrid}
+use Rattle.iso_cli.specs.Rests.{LeavesGridFile}
 use Rattle.iso_cli.specs.Statuses.{IsDecided}
+use Rattle.iso_cli.proofs.Interrupting.{behind_read, header_leaves, samples_leave}
 use Rattle.iso_cli.proofs.Refusing.{IfErr-more, behind_header, file_has, header_refused, known, samples_refused, unfit_refused}
 use Rattle.iso_cli.proofs.files.read_grid.Goals as goal
 
@@ -83,3 +85,45 @@ returns-clause-held g c =
       known (g.S.Shelf.rest c.read_header.new.shelf) behind.0 (λ bs. SpellsSamples c.in_ok-header.header bs c.in_ok-read_samples.field-0) behind.2
           c.in_ok-read_samples.ensures.spelled,
     ))
+
+pub returns-in_err-header-clause-left : goal.returns-in_err-header-clause-left
+returns-in_err-header-clause-left g c =
+    let leaves : LeavesGridFile (g.S.Shelf.files c.args.shelf.now) c.args.name.now c.args.dimension (g.S.Shelf.rest c.read_header.new.shelf)
+    (grid_status c.in_err-header.field-0.0) =
+    header_leaves (g.S.Shelf.files c.args.shelf.now) c.args.name.now c.args.dimension (g.S.Shelf.rest c.begin.new.self)
+    (g.S.Shelf.rest c.read_header.new.shelf) c.in_err-header.field-0.0 c.in_ok-begin.ensures.begun c.in_err-header.ensures.causes
+    c.in_err-header.ensures.undecided in
+    IfErr-more c.from_residual-in_err-header.result (λ status. status ≡ grid_status c.in_err-header.field-0.0) _ c.from_residual-in_err-header.ensures.1
+    (λ status is.
+    subst
+    (λ (s : Status).
+    LeavesGridFile (g.S.Shelf.files c.args.shelf.now) c.args.name.now c.args.dimension (g.S.Shelf.rest c.read_header.new.shelf) s)
+    (sym is) leaves)
+
+pub returns-then-header-dimension-clause-left : goal.returns-then-header-dimension-clause-left
+returns-then-header-dimension-clause-left g c = record {
+  samples =
+      behind_read (g.S.Shelf.files c.args.shelf.now) c.args.name.now (g.S.Shelf.rest c.begin.new.self) (g.S.Shelf.rest c.read_header.new.shelf)
+      c.in_ok-header.header c.in_ok-begin.ensures.begun c.in_ok-header.ensures.read;
+  undecided = λ fault. absurd fault;
+}
+
+pub returns-in_err-read_samples-clause-left : goal.returns-in_err-read_samples-clause-left
+returns-in_err-read_samples-clause-left g c =
+    let same : length c.in_ok-header.header.sizes ≡ c.header.inside.dims =
+    ap (λ (h : Header). length h.sizes) (sym c.header.view_is) ∙ axes-stated c.header.inside.dims c.header.inside.sizes c.header.invariant in
+    let fits : c.args.dimension ≡ length c.in_ok-header.header.sizes = sym (same ∙ c.if-header-dimension.false) in
+    let leaves : LeavesGridFile (g.S.Shelf.files c.args.shelf.now) c.args.name.now c.args.dimension (g.S.Shelf.rest c.read_samples.new.shelf)
+    (grid_status c.in_err-read_samples.field-0.0) =
+    samples_leave (g.S.Shelf.files c.args.shelf.now) c.args.name.now c.args.dimension (g.S.Shelf.rest c.begin.new.self)
+    (g.S.Shelf.rest c.read_header.new.shelf) (g.S.Shelf.rest c.read_samples.new.shelf) c.in_ok-header.header c.in_err-read_samples.field-0.0
+    c.in_ok-begin.ensures.begun c.in_ok-header.ensures.read fits
+    (λ count is. ap g.S.Shelf.rest (c.in_err-read_samples.ensures.untouched (c.in_err-read_samples.ensures.large_only count (ap Err is)).0))
+    c.in_err-read_samples.ensures.undecided in
+    IfErr-more c.from_residual-in_err-read_samples.result (λ status. status ≡ grid_status c.in_err-read_samples.field-0.0) _
+    c.from_residual-in_err-read_samples.ensures.1
+    (λ status is.
+    subst
+    (λ (s : Status).
+    LeavesGridFile (g.S.Shelf.files c.args.shelf.now) c.args.name.now c.args.dimension (g.S.Shelf.rest c.read_samples.new.shelf) s)
+    (sym is) leaves)

@@ -1,4 +1,4 @@
-use Rattle.std.proofs.Common.{◌≡◌, ℕ, List, ◌≤◌, length, subst, arith, sym, ◌∙◌, ◌<◌}
+use Rattle.std.proofs.Common.{◌≡◌, ℕ, List, ◌≤◌, length, drop, Some, subst, arith, sym, ◌∙◌, ◌<◌}
 use Rattle.std.proofs.lemmas.Grind.{common_steps}
 use Rattle.iso_formats.specs.TableFile.{SpellsTable}
 use Rattle.table_file.specs.Reading.{HasCause, table_in}
@@ -6,6 +6,7 @@ use Rattle.iso_cli.specs.declared.status.Status.{Status}
 use Rattle.iso_cli.specs.StatusCauses.{table_status}
 use Rattle.iso_cli.specs.Refusals.{FileHas, IsFileOf, IsRefusedForm, too_long}
 use Rattle.iso_cli.specs.Statuses.{IsDecided}
+use Rattle.iso_cli.proofs.Interrupting.{left_behind}
 use Rattle.iso_cli.proofs.Refusing.{IfErr-more, fault_refused, file_has, short}
 use Rattle.iso_cli.proofs.FileTaking.{front-whole, front-long}
 use Rattle.iso_cli.proofs.files.read_table.Goals as goal
@@ -54,3 +55,16 @@ returns-in_err-decode-clause-refused g c =
     (λ status is.
     subst (λ (s : Status). IsDecided s → FileHas (g.S.Shelf.files c.args.shelf.now) c.args.name.now (λ bytes. IsRefusedForm bytes s)) (sym is)
     refused)
+
+pub returns-then-len-gt-TABLE_LIMIT-clause-left : goal.returns-then-len-gt-TABLE_LIMIT-clause-left
+returns-then-len-gt-TABLE_LIMIT-clause-left g c =
+    let count : length c.in_ok-bytes.bytes.items ≡ 1073741825 = grind (arith, common_steps) in
+    record {
+      long =
+          file_has (g.S.Shelf.files c.args.shelf.now) c.args.name.now (g.S.Shelf.rest c.begin.new.self)
+          (λ bytes. g.S.Shelf.rest c.read_front.new.shelf ≡ Some (drop 1073741825 bytes)) c.in_ok-begin.ensures.begun
+          (λ bytes there rest.
+          left_behind bytes c.in_ok-bytes.bytes.items (g.S.Shelf.rest c.begin.new.self) (g.S.Shelf.rest c.read_front.new.shelf) 1073741825 rest
+          c.in_ok-bytes.ensures.came count);
+      undecided = λ fault. absurd fault;
+    }

@@ -16,5 +16,5 @@ returns-in-Ok-clause-output g c =
     output_map g.O.Sink.faults g.O.Sink.bytes (λ text. text ≡ placed_text (checked_in c.in-Ok.table) c.in-Ok.grid (to_z w64 (of_z w64 c.args.iso)))
     (λ text. IsOutput files text (extract_command c.args.table.now c.args.grid.now c.args.iso))
     (mesh_text_at files c.args.table.now c.args.grid.now c.args.iso (to_z w64 (of_z w64 c.args.iso)) (checked_in c.in-Ok.table) c.in-Ok.grid
-    c.in-Ok.ensures.held same)
+    c.in-Ok.ensures.held c.in-Ok.ensures.regular same)
     c.put_mesh.result c.args.out.now c.put_mesh.new.out c.put_mesh.ensures.output
