@@ -11,27 +11,7 @@ use std::alloc::Global;
 use std::test::Fail;
 use table_check::{CertifyFault, certify};
 use table_file::{AnyTable, Kind, decode};
-
-/// The table of the square.
-const SQUARE: [u8; 112] = [
-    0x48, 0x55, 0x4c, 0x4c, 0x54, 0x41, 0x42, 0x31, 0, 2, 4, 4, 0, 0, 0, 16, // head
-    0, 0, 0, 0, // label 0
-    0, 0, 0, 1, 0, 1, // label 1
-    0, 0, 0, 1, 2, 0, // label 2
-    0, 0, 0, 1, 2, 1, // label 3
-    0, 0, 0, 1, 1, 3, // label 4
-    0, 0, 0, 1, 0, 3, // label 5
-    0, 0, 0, 2, 1, 0, 2, 3, // label 6
-    0, 0, 0, 1, 2, 3, // label 7
-    0, 0, 0, 1, 3, 2, // label 8
-    0, 0, 0, 2, 0, 2, 3, 1, // label 9
-    0, 0, 0, 1, 3, 0, // label 10
-    0, 0, 0, 1, 3, 1, // label 11
-    0, 0, 0, 1, 1, 2, // label 12
-    0, 0, 0, 1, 0, 2, // label 13
-    0, 0, 0, 1, 1, 0, // label 14
-    0, 0, 0, 0, // label 15
-];
+use worked_tables::SQUARE;
 
 /// The grid of one square with one sample above the others.
 fn one_square(alloc: Global) -> Result<Grid, Fail>

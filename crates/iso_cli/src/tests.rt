@@ -5,69 +5,9 @@ use iso_base::{MemFile, MemShelf, MemSink};
 use std::alloc::{AllocError, Global};
 use std::process::Abort;
 use std::test::Fail;
+use worked_tables::{SQUARE, TETRAHEDRON, TRIANGLE};
 
 mod generated;
-
-// The table of the square: its head, and a line for each label.
-#[rattlefmt::skip]
-const SQUARE: [u8; 112] = [
-    b'H', b'U', b'L', b'L', b'T', b'A', b'B', b'1',
-    0, 2, 4, 4, 0, 0, 0, 16,
-    0, 0, 0, 0,
-    0, 0, 0, 1, 0, 1,
-    0, 0, 0, 1, 2, 0,
-    0, 0, 0, 1, 2, 1,
-    0, 0, 0, 1, 1, 3,
-    0, 0, 0, 1, 0, 3,
-    0, 0, 0, 2, 1, 0, 2, 3,
-    0, 0, 0, 1, 2, 3,
-    0, 0, 0, 1, 3, 2,
-    0, 0, 0, 2, 0, 2, 3, 1,
-    0, 0, 0, 1, 3, 0,
-    0, 0, 0, 1, 3, 1,
-    0, 0, 0, 1, 1, 2,
-    0, 0, 0, 1, 0, 2,
-    0, 0, 0, 1, 1, 0,
-    0, 0, 0, 0,
-];
-
-// The table of the simplex of two dimensions.
-#[rattlefmt::skip]
-const TRIANGLE: [u8; 60] = [
-    b'H', b'U', b'L', b'L', b'T', b'A', b'B', b'1',
-    1, 2, 3, 3, 0, 0, 0, 8,
-    0, 0, 0, 0,
-    0, 0, 0, 1, 0, 1,
-    0, 0, 0, 1, 2, 0,
-    0, 0, 0, 1, 2, 1,
-    0, 0, 0, 1, 1, 2,
-    0, 0, 0, 1, 0, 2,
-    0, 0, 0, 1, 1, 0,
-    0, 0, 0, 0,
-];
-
-// The table of the simplex of three dimensions.
-#[rattlefmt::skip]
-const TETRAHEDRON: [u8; 140] = [
-    b'H', b'U', b'L', b'L', b'T', b'A', b'B', b'1',
-    1, 3, 4, 6, 0, 0, 0, 16,
-    0, 0, 0, 0,
-    0, 0, 0, 1, 0, 2, 1,
-    0, 0, 0, 1, 0, 3, 4,
-    0, 0, 0, 2, 1, 4, 2, 1, 3, 4,
-    0, 0, 0, 1, 1, 5, 3,
-    0, 0, 0, 2, 0, 2, 5, 0, 5, 3,
-    0, 0, 0, 2, 0, 1, 5, 0, 5, 4,
-    0, 0, 0, 1, 2, 5, 4,
-    0, 0, 0, 1, 2, 4, 5,
-    0, 0, 0, 2, 0, 5, 1, 0, 4, 5,
-    0, 0, 0, 2, 0, 5, 2, 0, 3, 5,
-    0, 0, 0, 1, 1, 3, 5,
-    0, 0, 0, 2, 1, 2, 4, 1, 4, 3,
-    0, 0, 0, 1, 0, 4, 3,
-    0, 0, 0, 1, 0, 1, 2,
-    0, 0, 0, 0,
-];
 
 const HEADER: &str = "NRRD0001\ntype: uint8\ndimension: 2\nsizes: 2 2\nencoding: raw\n\n";
 

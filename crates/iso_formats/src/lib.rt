@@ -5,8 +5,6 @@
 //!
 //! - grid files: `HeaderLines` (the lines of a header), `GridFile` (what a header and its data spell), `GridFaults` (what is wrong with them);
 //! - table files: `TableFile` (version 1, its bytes and faults), `TableFile2` (version 2, and the file of either version);
-//! - meshes: `MeshText` (the text of a mesh);
-//! - table files: `TableFile` (their bytes and faults);
 //! - meshes: `MeshText` (the text of a mesh), `MeshFile` (what a mesh file of anybody spells, and the first word of it that does not fit);
 //! - the program: `Commands` (its words), `Demo` (its demonstration).
 //!

@@ -3,28 +3,7 @@
 use crate::{AnyTable, Kind, Table, TableFault, decode, encode, encode2};
 use std::alloc::Global;
 use std::test::Fail;
-
-/// The table of the square, and one byte more.
-const SQUARE: [u8; 113] = [
-    0x48, 0x55, 0x4c, 0x4c, 0x54, 0x41, 0x42, 0x31, 0, 2, 4, 4, 0, 0, 0, 16, // head
-    0, 0, 0, 0, // label 0
-    0, 0, 0, 1, 0, 1, // label 1
-    0, 0, 0, 1, 2, 0, // label 2
-    0, 0, 0, 1, 2, 1, // label 3
-    0, 0, 0, 1, 1, 3, // label 4
-    0, 0, 0, 1, 0, 3, // label 5
-    0, 0, 0, 2, 1, 0, 2, 3, // label 6
-    0, 0, 0, 1, 2, 3, // label 7
-    0, 0, 0, 1, 3, 2, // label 8
-    0, 0, 0, 2, 0, 2, 3, 1, // label 9
-    0, 0, 0, 1, 3, 0, // label 10
-    0, 0, 0, 1, 3, 1, // label 11
-    0, 0, 0, 1, 1, 2, // label 12
-    0, 0, 0, 1, 0, 2, // label 13
-    0, 0, 0, 1, 1, 0, // label 14
-    0, 0, 0, 0, // label 15
-    0,
-];
+use worked_tables::{SQUARE, TRIANGLE};
 
 /// The table of the square in version 2, which leaves the labels 0 and 15 out.
 const SQUARE2: [u8; 276] = [
@@ -60,19 +39,6 @@ const SQUARE2: [u8; 276] = [
     0, 0, 0, 1, 1, 0, // the body of label 14
 ];
 
-/// The table of the triangle.
-const TRIANGLE: [u8; 60] = [
-    0x48, 0x55, 0x4c, 0x4c, 0x54, 0x41, 0x42, 0x31, 1, 2, 3, 3, 0, 0, 0, 8, // head
-    0, 0, 0, 0, // label 0
-    0, 0, 0, 1, 0, 1, // label 1
-    0, 0, 0, 1, 2, 0, // label 2
-    0, 0, 0, 1, 2, 1, // label 3
-    0, 0, 0, 1, 1, 2, // label 4
-    0, 0, 0, 1, 0, 2, // label 5
-    0, 0, 0, 1, 1, 0, // label 6
-    0, 0, 0, 0, // label 7
-];
-
 /// The last eight bytes of the heads of the seven kinds.
 const KINDS: [[u8; 8]; 7] = [
     [0, 2, 4, 4, 0, 0, 0, 16],
@@ -97,7 +63,7 @@ fn fault_of(alloc: Global, bytes: &[u8]) -> Option<TableFault> {
 
 #[test]
 fn reads_tables_of_the_plane(rt: HostRuntime) -> Result<(), Fail> {
-    let AnyTable::T2(square) = decode(rt.alloc(), &SQUARE[..112])? else {
+    let AnyTable::T2(square) = decode(rt.alloc(), &SQUARE)? else {
         return Err("no table of two dimensions".into());
     };
     assert!(rt; square.kind() == Kind::Cube);
@@ -163,7 +129,8 @@ fn names_each_wrong_byte(rt: HostRuntime) {
         ([(25, 4), (25, 4), (25, 4)], 112, TableFault::EdgeNumber(25)),
     ];
     for (changes, length, expected) in cases {
-        let mut bytes = SQUARE;
+        let mut bytes = [0; 113];
+        bytes[..112].copy_from_slice(&SQUARE);
         for (place, byte) in changes {
             assert!(rt; place < 113);
             bytes[place] = byte;
@@ -203,11 +170,11 @@ fn names_each_byte_of_a_head(rt: HostRuntime) {
 
 #[test]
 fn writes_what_was_read(rt: HostRuntime) -> Result<(), Fail> {
-    let AnyTable::T2(square) = decode(rt.alloc(), &SQUARE[..112])? else {
+    let AnyTable::T2(square) = decode(rt.alloc(), &SQUARE)? else {
         return Err("no table of two dimensions".into());
     };
     let bytes = encode(rt.alloc(), &square).map_err(|_| "memory")?;
-    assert_eq!(rt; bytes.as_slice(), &SQUARE[..112]);
+    assert_eq!(rt; bytes.as_slice(), SQUARE.as_slice());
     let bytes = encode2(rt.alloc(), &square).map_err(|_| "memory")?;
     assert_eq!(rt; bytes.as_slice(), SQUARE2.as_slice());
     let AnyTable::T2(triangle) = decode(rt.alloc(), &TRIANGLE)? else {
