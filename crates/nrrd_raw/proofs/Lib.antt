@@ -7,6 +7,7 @@ pub mod JudgeLaws
 pub mod LineEndLaws
 pub mod MagicLaws
 pub mod NumeralLaws
+pub mod OpenFileLaws
 pub mod OpenLaws
 pub mod PlaceOfLines
 pub mod ReadLaws

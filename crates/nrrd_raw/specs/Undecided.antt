@@ -1,9 +1,9 @@
 -- What may have been taken of a file while nothing is decided.
-use Rattle.std.specs.Prelude.{ℕ, ◌-◌, ◌<◌, ◌≤◌, ◌++◌, List, length, take, Option, Result, IfErr, IfSome, IsTrue}
+use Rattle.std.specs.Prelude.{ℕ, ◌-◌, ◌<◌, ◌≤◌, ◌⊎◌, ◌++◌, List, length, take, Option, Result, IfErr, IfSome, IsTrue}
 use Rattle.std.specs.Io.KnownBytes.{Consumes, Keeps}
 use Rattle.iso_model.specs.Values.{product}
 use Rattle.iso_formats.specs.HeaderLines.{begins_right, header_limit}
-use Rattle.iso_formats.specs.GridFile.{Header, sample_limit}
+use Rattle.iso_formats.specs.GridFile.{HasHeader, Header, sample_limit}
 use Rattle.iso_formats.specs.GridFaults.{HasNoLines}
 use Rattle.nrrd_raw.specs.declared.faults.GridFault.{GridFault}
 use Rattle.nrrd_raw.specs.FaultCauses.{data_length}
@@ -40,3 +40,12 @@ EndsOpenHeader bytes = IsOpenHeader (take (length bytes - 1) bytes)
 pub record IsOpenData (h : Header) (bytes : List ℕ) : Type 0 where
   pub few : product h.sizes ≤ sample_limit
   pub short : length bytes ≤ data_length h
+
+-- bytes of a grid file decide nothing: they can still begin a header that is not ended, or they begin with a header, and nothing is decided by what
+-- stands behind it
+abbrev pub IsOpenFile : List ℕ → Type 0
+IsOpenFile bytes = IsOpenHeader bytes ⊎ ((h : Header) × (data_bytes : List ℕ) × HasHeader bytes h data_bytes × IsOpenData h data_bytes)
+
+-- no byte stands behind one that decides: without their last one, the bytes decide nothing
+abbrev pub EndsOpenFile : List ℕ → Type 0
+EndsOpenFile bytes = IsOpenFile (take (length bytes - 1) bytes)

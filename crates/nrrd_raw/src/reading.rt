@@ -9,7 +9,7 @@ ghost use Rattle.iso_base.specs.Shelves.{IsSameShelf, TakesAtMost};
 ghost use Rattle.nrrd_raw.specs.FaultCauses.{NamesCause};
 ghost use Rattle.nrrd_raw.specs.GridFaultWords.{BlamesFairly, blame_of, is_header_fault};
 ghost use Rattle.nrrd_raw.specs.Headers.{HeaderIsRead};
-ghost use Rattle.nrrd_raw.specs.Undecided.{TakesSuch, BlamesWhile, IsOpenHeader, EndsOpenHeader};
+ghost use Rattle.nrrd_raw.specs.Undecided.{TakesSuch, BlamesWhile, IsOpenFile, IsOpenHeader, EndsOpenFile, EndsOpenHeader};
 
 use crate::faults::GridFault;
 use crate::fields::headers::Header;
@@ -49,6 +49,8 @@ pub fn read_grid<S: Shelf>(alloc: Global, shelf: &mut S) -> Result<Grid, GridFau
     ensures cause { NamesCause HasGridFault (S.rest shelf.old) result }
     ensures whole { OnOk result (IsAtEnd (S.rest shelf.new)) }
     ensures taken { TakesAtMost (2 ^ 29 + 65537) (S.rest shelf.old) (S.rest shelf.new) }
+    ensures no_further { TakesSuch EndsOpenFile (S.rest shelf.old) (S.rest shelf.new) }
+    ensures undecided { BlamesWhile IsOpenFile (S.rest shelf.old) (S.rest shelf.new) result }
     ensures regular { IfOk result IsRegularGrid }
 {
     let header = read_header(shelf)?;

@@ -509,6 +509,41 @@ fn slices_are_given_up_to_the_end_of_the_file(rt: HostRuntime) -> Result<(), Fai
 }
 
 #[test]
+fn each_call_of_a_slice_reader_may_fail(rt: HostRuntime) -> Result<(), Fail> {
+    // Two slices of two bytes each and a trailing byte, each given by a call of its own behind the 60 calls of the lines:
+    // the call that fails, and how many slices are given before it.
+    let text = format!(in rt.alloc(); "{SQUARE}abcde")?;
+    for (call, given) in [(61, 0), (62, 0), (63, 1), (64, 1), (65, 2), (66, 2)] {
+        let mut shelf = failing_shelf(rt.alloc(), text.as_bytes(), 1, &[call])?;
+        let mut reader = SliceReader::new(&read_header(&mut shelf)?)?;
+        let mut slice = Vec::new(rt.alloc());
+        for _ in 0..given {
+            assert_eq!(rt;
+                reader.step(rt.alloc(), &mut shelf, &mut slice),
+                Ok(true),
+                "{call}"
+            );
+        }
+        let fault = if call <= 65 {
+            GridFault::Shelf(1)
+        } else {
+            GridFault::Trailing
+        };
+        assert_eq!(rt;
+            reader.step(rt.alloc(), &mut shelf, &mut slice),
+            Err(fault),
+            "{call}"
+        );
+        assert_eq!(rt;
+            reader.step(rt.alloc(), &mut shelf, &mut slice),
+            Ok(false),
+            "{call}"
+        );
+    }
+    Ok(())
+}
+
+#[test]
 fn a_reader_of_too_many_samples_is_refused(rt: HostRuntime) -> Result<(), Fail> {
     let header = Header {
         dims: 2,

@@ -94,7 +94,7 @@ impl SliceReader {
     }
 }
 
-/// The number of
+/// The number of slices.
 fn number_of_slices(header: &Header) -> u64
     requires { IsRegularHeader header.now }
     ensures { result ≡ slice_count header.now }
