@@ -1,6 +1,6 @@
 -- Bits of words: of two joined by or, of one that is shifted, and how many are set.
 use Rattle.std.proofs.Common.{ap, arith, inl, inr, refl, sym, ◌∙◌}
-use Rattle.std.proofs.lemmas.Bool.{cases_eq, ne_eqb, eq-eqb}
+use Rattle.std.proofs.lemmas.Bool.{and_right, cases_eq, ne_eqb, eq-eqb}
 use Rattle.std.proofs.lemmas.Nat.{pow_pos, and_mask}
 use Rattle.std.proofs.lemmas.List.Sums.{sum_by-cons}
 use lib.Count.{ones_step, ones-le}
@@ -45,24 +45,24 @@ bit_in_word n i h =
     let whole : n / 2 ^ 64 * 2 ^ 64 + n % 2 ^ 64 ≡ n = omega arith in
     sym (bit_at_cat_low (n / 2 ^ 64) 64 (n % 2 ^ 64) i h) ∙ ap (λ m. bit_at m i) whole
 
--- what is shifted up by k has its bits k places higher
-pub shifted_high : (n k i : ℕ) → k ≤ i → bit_at (n * 2 ^ k) i ≡ bit_at n (i - k)
-shifted_high n k i h =
+-- what is shifted up by k in a word has its bits k places higher, and none below them
+raised_high : (n k i : ℕ) → k ≤ i → i < 64 → bit_at (n * 2 ^ k % 2 ^ 64) i ≡ bit_at n (i - k)
+raised_high n k i h low =
     let same : n * 2 ^ k ≡ n * 2 ^ k + 0 = omega arith in
-    ap (λ m. bit_at m i) same ∙ bit_at_cat_high n k 0 i (positive k) h
+    bit_in_word (n * 2 ^ k) i low ∙ ap (λ m. bit_at m i) same ∙ bit_at_cat_high n k 0 i (positive k) h
   where
     positive : (j : ℕ) → 0 < 2 ^ j
     positive j = pow_pos j
 
-pub shifted_low : (n k i : ℕ) → i < k → bit_at (n * 2 ^ k) i ≡ 0
-shifted_low n k i h =
+raised_low : (n k i : ℕ) → i < k → i < 64 → bit_at (n * 2 ^ k % 2 ^ 64) i ≡ 0
+raised_low n k i h low =
     let same : n * 2 ^ k ≡ n * 2 ^ k + 0 = omega arith in
-    ap (λ m. bit_at m i) same ∙ bit_at_cat_low n k 0 i h ∙ bit_at-zero i
+    bit_in_word (n * 2 ^ k) i low ∙ ap (λ m. bit_at m i) same ∙ bit_at_cat_low n k 0 i h ∙ bit_at-zero i
 
 -- a word that is shifted down by one, with a bit of the next at its end
 pub down_low : (word next k : ℕ) → k < 63 → is_set (bit_or (word / 2) (next * 2 ^ 63 % 2 ^ 64)) k ≡ is_set word (k + 1)
 down_low word next k h =
-    let none : bit_at (next * 2 ^ 63 % 2 ^ 64) k ≡ 0 = bit_in_word (next * 2 ^ 63) k (omega arith) ∙ shifted_low next 63 k h in
+    let none : bit_at (next * 2 ^ 63 % 2 ^ 64) k ≡ 0 = raised_low next 63 k h (omega arith) in
     let after : suc k ≡ k + 1 = omega arith in
     only_first (word / 2) (next * 2 ^ 63 % 2 ^ 64) k none
     ∙ ap (λ n. n == 1) (sym (bit_at-suc word k) ∙ ap (bit_at word) after)
@@ -71,7 +71,7 @@ pub down_high : (word next : ℕ) → word < 2 ^ 64 → is_set (bit_or (word / 2
 down_high word next h =
     let none : bit_at (word / 2) 63 ≡ 0 = bit_at_above (word / 2) 63 63 (omega arith) (omega arith) in
     only_second (word / 2) (next * 2 ^ 63 % 2 ^ 64) 63 none
-    ∙ ap (λ n. n == 1) (bit_in_word (next * 2 ^ 63) 63 (omega arith) ∙ shifted_high next 63 63 (omega arith))
+    ∙ ap (λ n. n == 1) (raised_high next 63 63 (omega arith) (omega arith))
 
 -- a word that is shifted up by one, with a bit of the one before at its front
 pub up_high : (word previous k : ℕ) → previous < 2 ^ 64 → k < 63 → is_set (bit_or (word * 2 % 2 ^ 64) (previous / 2 ^ 63)) (k + 1) ≡ is_set word k
@@ -79,17 +79,13 @@ up_high word previous k h low =
     let none : bit_at (previous / 2 ^ 63) (k + 1) ≡ 0 = bit_at_above (previous / 2 ^ 63) 1 (k + 1) (omega arith) (omega arith) in
     let back : k + 1 - 1 ≡ k = omega arith in
     only_first (word * 2 % 2 ^ 64) (previous / 2 ^ 63) (k + 1) none
-    ∙ ap (λ n. n == 1) (bit_in_word (word * 2) (k + 1) (omega arith) ∙ shifted_high word 1 (k + 1) (omega arith) ∙ ap (bit_at word) back)
+    ∙ ap (λ n. n == 1) (raised_high word 1 (k + 1) (omega arith) (omega arith) ∙ ap (bit_at word) back)
 
 pub up_low : (word previous : ℕ) → is_set (bit_or (word * 2 % 2 ^ 64) (previous / 2 ^ 63)) 0 ≡ is_set previous 63
 up_low word previous =
-    let none : bit_at (word * 2 % 2 ^ 64) 0 ≡ 0 = bit_in_word (word * 2) 0 (omega arith) ∙ shifted_low word 1 0 (omega arith) in
+    let none : bit_at (word * 2 % 2 ^ 64) 0 ≡ 0 = raised_low word 1 0 (omega arith) (omega arith) in
     let same : bit_at (previous / 2 ^ 63) 0 ≡ bit_at previous 63 = bit_at_lowest (previous / 2 ^ 63) in
     only_second (word * 2 % 2 ^ 64) (previous / 2 ^ 63) 0 none ∙ ap (λ n. n == 1) same
-
-pub and_false : (t : Bool) → (t && false) ≡ false
-and_false true = refl
-and_false false = refl
 
 -- a test as a bit at place p of a word
 pub test_bit : (b : Bool) (p k : ℕ) → p < 64 → k < 64 → is_set ((if b then 1 else 0) * 2 ^ p % 2 ^ 64) k ≡ ((k == p) && b)
@@ -104,7 +100,7 @@ test_bit b p k h low = ap (λ n. n == 1) (bit_in_word ((if b then 1 else 0) * 2 
         ap (λ n. is_set n k) one ∙ ap (λ n. n == 1) (bit_at-pow_other p k e) ∙ sym (and_true (k == p) ∙ ne_eqb k p e)
     by_case false other =
         let none : 0 * 2 ^ p ≡ 0 = omega arith in
-        ap (λ n. is_set n k) none ∙ ap (λ n. n == 1) (bit_at-zero k) ∙ sym (and_false (k == p))
+        ap (λ n. is_set n k) none ∙ ap (λ n. n == 1) (bit_at-zero k) ∙ sym (and_right (k == p) false refl)
 
 -- ---- how many bits are set
 

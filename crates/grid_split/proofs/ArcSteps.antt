@@ -3,6 +3,7 @@ use Rattle.std.proofs.Common.{◌≡◌, ℕ, zero, suc, ◌+◌, ◌-◌, ◌*�
 use Rattle.std.proofs.Common.{refl, ap, sym, ◌∙◌, subst, arith, inl, inr, if◌then◌else◌}
 use Rattle.std.specs.Prelude.{◌==◌, ◌⊎◌, ◌/◌, ◌%◌, ⊤, nat_le, filter, slice_index, slice_index_or}
 use Rattle.std.specs.List.{list_all}
+use Rattle.std.proofs.lemmas.Bool.{and_from, and_left, and_right}
 use Rattle.std.proofs.lemmas.Bool.Decides.{nat_tests}
 use Rattle.iso_model.specs.declared.Kind.{Kind}
 use Rattle.std.proofs.lemmas.Nat.{div-mul-add, mod-mul-add, mul-add-lt}
@@ -150,10 +151,6 @@ all_there true false c p q r = q
 all_there false b c p q r = p
 
 module _ (sizes cube : List ℕ) where
-  and_out : (a b : Bool) → b ≡ false → (a && b) ≡ false
-  and_out true b h = h
-  and_out false b h = refl
-
   pub out_false : (back : List ℕ) → length back ≡ 3 → (i : ℕ) → i < 3
       → stands_in (slice_index sizes i) (slice_index cube i) (slice_index back i) ≡ false → stands (sides_at sizes cube) back ≡ false
   out_false [] long i hi out = absurd (omega (arith, long))
@@ -163,13 +160,13 @@ module _ (sizes cube : List ℕ) where
   out_false (a ∷ b ∷ c ∷ []) long zero hi out =
       ap (λ (x : Bool). x && (stands_in (slice_index sizes 1) (slice_index cube 1) b && (stands_in (slice_index sizes 2) (slice_index cube 2) c && true))) out
   out_false (a ∷ b ∷ c ∷ []) long (suc zero) hi out =
-      and_out (stands_in (slice_index sizes 0) (slice_index cube 0) a)
+      and_right (stands_in (slice_index sizes 0) (slice_index cube 0) a)
       (stands_in (slice_index sizes 1) (slice_index cube 1) b && (stands_in (slice_index sizes 2) (slice_index cube 2) c && true))
       (ap (λ (x : Bool). x && (stands_in (slice_index sizes 2) (slice_index cube 2) c && true)) out)
   out_false (a ∷ b ∷ c ∷ []) long (suc (suc zero)) hi out =
-      and_out (stands_in (slice_index sizes 0) (slice_index cube 0) a)
+      and_right (stands_in (slice_index sizes 0) (slice_index cube 0) a)
       (stands_in (slice_index sizes 1) (slice_index cube 1) b && (stands_in (slice_index sizes 2) (slice_index cube 2) c && true))
-      (and_out (stands_in (slice_index sizes 1) (slice_index cube 1) b) (stands_in (slice_index sizes 2) (slice_index cube 2) c && true)
+      (and_right (stands_in (slice_index sizes 1) (slice_index cube 1) b) (stands_in (slice_index sizes 2) (slice_index cube 2) c && true)
       (ap (λ (x : Bool). x && true) out))
   out_false (a ∷ b ∷ c ∷ []) long (suc (suc (suc i))) hi out = absurd (omega (arith, hi))
 
@@ -228,24 +225,12 @@ module _ (kind : Kind) (sizes cube : List ℕ) (ps : List Place) (p : Place) (be
   abbrev all : Bool
   all = list_all (λ (q : Place). stands (sides_at sizes cube) q.back) ps
 
-  both : (a b : Bool) → a ≡ true → b ≡ true → (a && b) ≡ true
-  both true b x y = y
-  both false b x y = x
-
-  none_or : (a b : Bool) → b ≡ false → (a && b) ≡ false
-  none_or true b y = y
-  none_or false b y = refl
-
-  first_none : (a b : Bool) → a ≡ false → (a && b) ≡ false
-  first_none true b x = absurd (cc)
-  first_none false b x = refl
-
   -- before the first gap
   pub step_before : (c : ℕ) → Progress kind sizes cube ps before cells true → stands (sides_at sizes cube) p.back ≡ true → StandsAt kind sizes cube p c
       → Progress kind sizes cube (ps ++ p ∷ []) (before ++ c ∷ []) cells true
   step_before c done there at =
-      let whole : (all && stands sides p.back) ≡ true = both all (stands sides p.back) (sym done.closed_is) there in
-      let none : (not all && stands sides p.back) ≡ false = first_none (not all) (stands sides p.back) (ap not (sym done.closed_is)) in
+      let whole : (all && stands sides p.back) ≡ true = and_from all (stands sides p.back) (sym done.closed_is) there in
+      let none : (not all && stands sides p.back) ≡ false = and_left (not all) (stands sides p.back) (ap not (sym done.closed_is)) in
       record {
         before_is =
             subst (λ (xs : List Place). AreAt kind sizes cube xs (before ++ c ∷ []))
@@ -261,8 +246,8 @@ module _ (kind : Kind) (sizes cube : List ℕ) (ps : List Place) (p : Place) (be
   pub step_after : (c : ℕ) → Progress kind sizes cube ps before cells false → stands (sides_at sizes cube) p.back ≡ true → StandsAt kind sizes cube p c
       → Progress kind sizes cube (ps ++ p ∷ []) before (cells ++ c ∷ []) false
   step_after c done there at =
-      let gone : (all && stands sides p.back) ≡ false = first_none all (stands sides p.back) (sym done.closed_is) in
-      let more : (not all && stands sides p.back) ≡ true = both (not all) (stands sides p.back) (ap not (sym done.closed_is)) there in
+      let gone : (all && stands sides p.back) ≡ false = and_left all (stands sides p.back) (sym done.closed_is) in
+      let more : (not all && stands sides p.back) ≡ true = and_from (not all) (stands sides p.back) (ap not (sym done.closed_is)) there in
       record {
         before_is =
             subst (λ (xs : List Place). AreAt kind sizes cube xs before)
@@ -278,8 +263,8 @@ module _ (kind : Kind) (sizes cube : List ℕ) (ps : List Place) (p : Place) (be
   pub step_gap : (closed : Bool) → Progress kind sizes cube ps before cells closed → stands (sides_at sizes cube) p.back ≡ false
       → Progress kind sizes cube (ps ++ p ∷ []) before cells false
   step_gap closed done out =
-      let gone : (all && stands sides p.back) ≡ false = none_or all (stands sides p.back) out in
-      let none : (not all && stands sides p.back) ≡ false = none_or (not all) (stands sides p.back) out in
+      let gone : (all && stands sides p.back) ≡ false = and_right all (stands sides p.back) out in
+      let none : (not all && stands sides p.back) ≡ false = and_right (not all) (stands sides p.back) out in
       record {
         before_is =
             subst (λ (xs : List Place). AreAt kind sizes cube xs before)

@@ -30,7 +30,7 @@ use Rattle.grid_split.specs.declared.rings.Place.{Place}
 use Rattle.grid_split.specs.Rounds.{sum_of, way_of, IsEdge, IsMiddle, IsWay, HasWay, IsNextTo, AreInTurn, AreOwn, AreRound, StandsAt}
 use Rattle.grid_split.specs.Rounds.{stands, before_gap, after_gap, arc_of, side_at, sides_at, AreAt}
 use Rattle.grid_split.proofs.ArcSteps.{stands_in, cube_there, all_there, out_false, at_length, place_in, cell_in, at_place}
-use Rattle.grid_split.proofs.RoundsHold.{same_parts, same_default, arc_in, in_arc, three_axes, three_is}
+use Rattle.grid_split.proofs.RoundsHold.{same_parts, arc_in, in_arc, three_axes, three_is}
 
 module _ (kind : Kind) (sizes : List ℕ) (axes : length sizes ≡ 3) (e : Edge) (cube way : List ℕ)
     (middle : IsMiddle e.low e.high cube way) (c0 : ℕ) (h0 : c0 < cell_count kind sizes)

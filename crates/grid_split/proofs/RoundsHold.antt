@@ -11,6 +11,7 @@ use Rattle.iso_model.specs.declared.Kind.TheVariants.{Cube, Simplex, Pyramid}
 use Rattle.lists.specs.Orders.{numbers, same_list}
 use Rattle.lists.specs.Members.{In}
 use Rattle.lists.proofs.Tests.{and_left, and_right, not_or, not_refused, equal_of, of_equal}
+use Rattle.lists.proofs.Contained.{Contains-at, any_default}
 use Rattle.lists.proofs.MemberLaws.{In_from, Contains_from, from_any, any_from, all_In, all_below, from_In-numbers, lists_equal}
 use Rattle.lists.proofs.MemberLaws.{In-append_left, In-append_right, from_In-append, In-filter, from_filter}
 use Rattle.iso_model.specs.Dimensions.{IsDimension}
@@ -47,15 +48,6 @@ same_place_of : (p q : Place) → p ≡ q → same_place p q ≡ true
 same_place_of p q e =
     and_from (p.rank == q.rank) (same_list p.back q.back) (of_equal p.rank q.rank (ap (λ (x : Place). x.rank) e))
     (equal_lists p.back q.back (ap (λ (x : Place). x.back) e))
-
--- within a list the default is not used
-pub same_default : {X : Type 0} (xs : List X) (i : ℕ) (a b : X) → i < length xs → slice_index_or xs i a ≡ slice_index_or xs i b
-same_default [] i a b q = absurd (omega (arith, q))
-same_default (x ∷ xs) zero a b q = refl
-same_default (x ∷ xs) (suc i) a b q = same_default xs i a b (omega (arith, q))
-
-member_at : {X : Type 0} (xs : List X) (i : ℕ) (d : X) → i < length xs → In (slice_index_or xs i d) xs
-member_at xs i d h = In_from xs (slice_index_or xs i d) (i, h, same_default xs i (slice_index_or xs i d) d h)
 
 -- ---- arcs
 
@@ -305,7 +297,7 @@ module _ (kind : Kind) (way : List ℕ) (is : IsWay kind way) where
   -- ---- each cell that has an edge of the way is listed
 
   pub way_at : (i : ℕ) → i < 3 → slice_index way i < 4
-  way_at i hi = way_small (slice_index way i) (member_at way i 0 (omega (arith, hi, way_long)))
+  way_at i hi = way_small (slice_index way i) (In_from way (slice_index way i) (Contains-at way i 0 (omega (arith, hi, way_long))))
 
   sum_back : (w b : ℕ) → w < 4 → (w + 4 * b) / 4 ≡ b
   sum_back w b h = omega (arith, h)
@@ -363,8 +355,8 @@ module _ (kind : Kind) (way : List ℕ) (is : IsWay kind way) where
   last_from [] each h d = absurd (cc)
   last_from (p ∷ rest) each h d =
       let last = slice_index_or (p ∷ rest) (length (p ∷ rest) - 1) p in
-      let at_end : In last (p ∷ rest) = member_at (p ∷ rest) (length (p ∷ rest) - 1) p (omega arith) in
-      subst (λ (x : Place). IsNextTo kind way x p) (same_default (p ∷ rest) (length (p ∷ rest) - 1) p d (omega arith))
+      let at_end : In last (p ∷ rest) = In_from (p ∷ rest) last (Contains-at (p ∷ rest) (length (p ∷ rest) - 1) p (omega arith)) in
+      subst (λ (x : Place). IsNextTo kind way x p) (any_default (p ∷ rest) (length (p ∷ rest) - 1) p d (omega arith))
       (next_from kind way last p (each last at_end) (each p (inl refl)) h)
 
   sides_at : (i : ℕ) → i < 3 → slice_index way i ≡ 0 →

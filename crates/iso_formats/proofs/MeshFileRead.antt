@@ -4,8 +4,8 @@ use Rattle.std.specs.Prelude.{Option, Some, None, if◌then◌else◌}
 use Rattle.std.specs.List.{AllPass}
 use Rattle.std.proofs.Common.{refl, ap, arith, subst, sym, ◌∙◌}
 use Rattle.std.proofs.lemmas.List.{append_assoc, append-nil, length-append}
-use Rattle.std.proofs.lemmas.Slice.Eq.{bytes_eq-Decides}
 use Rattle.lists.specs.Orders.{same_list}
+use Rattle.lists.proofs.MemberLaws.{lists_equal}
 use Rattle.lists.proofs.Tests.{of_equal, equal_of}
 use Rattle.iso_formats.specs.HeaderLines.{is_numeral, numeral_value}
 use Rattle.iso_formats.specs.MeshFile.{Word, Body, Stage, MeshFault, IsFirst, plain, named, HasFaces, BeginsOffLine, SpellsMesh, at_first, at_dimension}
@@ -261,9 +261,6 @@ record First (lines : ℕ) (ws : List Word) (d v : ℕ) (ss : List (List ℕ)) :
   some : 0 < dimension
   goes_on : EndsWell lines (at_vertices dimension) rest d v ss
 
-same_text : (a b : List ℕ) → same_list a b ≡ true → a ≡ b
-same_text a b e = (bytes_eq-Decides a b).0 e
-
 dimension_next : (lines : ℕ) (d v : ℕ) (ss : List (List ℕ)) (w : Word) (ws : List Word) → w.text ≡ codes "nOFF" → EndsWell lines at_dimension ws d v ss
     → First lines (w ∷ ws) d v ss
 unfolding EndsWell
@@ -278,7 +275,7 @@ dimension_next lines d v ss w (x ∷ ws) h e = go (is_size 2 x.text) (is_size 3 
       rest = ws;
       split = refl;
       is_first = subst (λ (ts : List (List ℕ)). IsFirst k ts) (ap (λ (a : List ℕ). a ∷ ((48 + k) ∷ []) ∷ []) (sym h)
-          ∙ ap (λ (a : List ℕ). w.text ∷ a ∷ []) (sym (same_text x.text ((48 + k) ∷ []) t))) (named l m);
+          ∙ ap (λ (a : List ℕ). w.text ∷ a ∷ []) (sym (lists_equal x.text ((48 + k) ∷ []) t))) (named l m);
       some = omega (arith, l);
       goes_on = e;
     }
@@ -305,11 +302,11 @@ first_of lines d v ss (w ∷ ws) e = go (same_list w.text (codes "OFF")) (same_l
       first = w ∷ [];
       rest = ws;
       split = refl;
-      is_first = subst (λ (ts : List (List ℕ)). IsFirst 3 ts) (ap (λ (a : List ℕ). a ∷ []) (sym (same_text w.text (codes "OFF") t))) (plain refl);
+      is_first = subst (λ (ts : List (List ℕ)). IsFirst 3 ts) (ap (λ (a : List ℕ). a ∷ []) (sym (lists_equal w.text (codes "OFF") t))) (plain refl);
       some = omega arith;
       goes_on = e;
     }
-    go false true _ u e = dimension_next lines d v ss w ws (same_text w.text (codes "nOFF") u) e
+    go false true _ u e = dimension_next lines d v ss w ws (lists_equal w.text (codes "nOFF") u) e
     go false false _ _ e = absurd (never lines (wrong_header w.line) ws d v ss e)
 
 -- the three numbers, and then the coordinates

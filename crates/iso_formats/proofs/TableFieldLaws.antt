@@ -3,7 +3,7 @@ use Rattle.std.specs.Prelude.{◌≡◌, ◌⊎◌, ℕ, zero, suc, ◌+◌, ◌
 use Rattle.std.specs.Prelude.{slice_index, if◌then◌else◌}
 use Rattle.std.proofs.Common.{refl, sym, ap, ◌∙◌, subst, arith, inl, inr}
 use Rattle.std.proofs.Math.Nat.{eq-or-lt_of_le, mul-le-mul_left}
-use Rattle.std.proofs.lemmas.Bool.{cases_lt, and_parts, and_from}
+use Rattle.std.proofs.lemmas.Bool.{cases_lt, lt-leb, and_parts, and_from}
 use Rattle.std.proofs.lemmas.Bool.Decides.{nat_tests}
 use Rattle.lists.proofs.Tests.{lt_of, of_lt, equal_of, of_equal}
 use Rattle.iso_model.specs.declared.Kind.{Kind}
@@ -130,9 +130,6 @@ all_judged kind d bytes before (body_byte k j) i = before (body_byte k j) i (ome
 le_of : (a b : ℕ) → nat_le a b ≡ true → a ≤ b
 le_of a b e = grind (arith, nat_tests)
 
-not_le_from : (a b : ℕ) → b < a → nat_le a b ≡ false
-not_le_from a b h = grind (arith, nat_tests)
-
 failed_cut : (a b : Bool) → a ≡ false → not (a && b) ≡ true
 failed_cut true b e = cc
 failed_cut false b e = refl
@@ -154,7 +151,7 @@ if_true false x y e = absurd (cc)
 pub cut_fault : (kind : Kind) (d : ℕ) (bytes : List ℕ) (f : Field) → IsField bytes d f → NoneFailsBefore kind d bytes (place_of bytes d f)
     → length bytes < place_of bytes d f + width_of f → HasBodyFault kind d bytes (at_short (length bytes))
 cut_fault kind d bytes f i before short =
-    let cut : is_uncut bytes d f ≡ false = not_le_from _ _ short in
+    let cut : is_uncut bytes d f ≡ false = lt-leb _ _ short in
     inl (
       f,
       record { is_field = i; failed = failed_cut (is_uncut bytes d f) (is_right kind d bytes f) cut; first = before },

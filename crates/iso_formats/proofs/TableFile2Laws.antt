@@ -4,6 +4,7 @@ use Rattle.std.specs.Prelude.{map, flat_map, length, find, Option, Some, None, i
 use Rattle.std.specs.List.{range_with_len}
 use Rattle.std.proofs.Math.Nat.{eq-or-lt_of_le}
 use Rattle.std.proofs.Common.{refl, ap, arith, subst, sym, ◌∙◌, inl, inr}
+use Rattle.std.proofs.lemmas.Bool.{lt-leb}
 use Rattle.std.proofs.lemmas.Bool.Decides.{nat_tests}
 use Rattle.lists.proofs.Tests.{lt_of, of_lt}
 use Rattle.iso_model.specs.declared.Kind.{Kind}
@@ -228,13 +229,6 @@ wrong_fails kind d bytes f e = go (is_uncut bytes d f) (is_right kind d bytes f)
     go true false e = refl
     go false b e = refl
 
-above : (m n : ℕ) → n < m → nat_le m n ≡ false
-above m n h = go (nat_le m n) refl
-  where
-    go : (b : Bool) → nat_le m n ≡ b → nat_le m n ≡ false
-    go true e = let l : m ≤ n = grind (arith, nat_tests) in absurd (omega (arith, h, l))
-    go false e = e
-
 place_high : (bytes : List ℕ) (d k : ℕ) → 20 ≤ body_place bytes d k
 place_high bytes d zero = omega arith
 place_high bytes d (suc k) = let h = place_high bytes d k in omega (arith, h)
@@ -257,7 +251,7 @@ by_first kind d bytes g h p = record {
   field = record_count;
   among = inl refl;
   failed = wrong_fails kind d bytes record_count
-      (above (stated bytes) (label_count kind d) h);
+      (lt-leb (stated bytes) (label_count kind d) h);
   before = omega (arith, p);
   listed = inr p;
 }
@@ -297,7 +291,7 @@ byte_covered kind d bytes k j l h e zero z =
     record {
       field = record_count;
       among = inl refl;
-      failed = cut_fails kind d bytes record_count (above 20 (length bytes) (omega (arith, z)));
+      failed = cut_fails kind d bytes record_count (lt-leb 20 (length bytes) (omega (arith, z)));
       before = omega
           (arith, p);
       listed = inr (omega (arith, p));
@@ -317,7 +311,7 @@ byte_covered kind d bytes k j l h e (suc size) z = go (nat_lt j (length bytes)) 
           field = body_byte k size;
           among = among_bodies kind d bytes (body_byte k size) k
               (inr (among_bytes k size 0 (min (d * count_at bytes d k) (length bytes)) (omega arith) (omega (arith, n, z, h)))) l;
-          failed = cut_fails kind d bytes (body_byte k size) (above (body_place bytes d k + 4 + size + 1) (length bytes) (omega (arith, z, p)));
+          failed = cut_fails kind d bytes (body_byte k size) (lt-leb (body_place bytes d k + 4 + size + 1) (length bytes) (omega (arith, z, p)));
           before = omega (arith, n, z);
           listed = inr (omega (arith, n, z));
         }

@@ -89,9 +89,6 @@ entries_once kind d label place ((w ∷ ws) ∷ es) ((v ∷ vs) ∷ fs) x y l a 
     let h = first.0 in
     ap (λ (gs : List (List (List ℕ))). (w ∷ ws) ∷ gs) rest ∙ ap (λ (us : List (List ℕ)). us ∷ fs) h
 
-same_tables : (t u : Table) → t.kind ≡ u.kind → t.dimension ≡ u.dimension → t.entries ≡ u.entries → t ≡ u
-same_tables t u a b c = λ i. record { kind = a i; dimension = b i; entries = c i }
-
 -- the tables of the same bytes are the same
 pub one_table2 : (bytes : List ℕ) (t u : Table) → SpellsTable2 bytes t → SpellsTable2 bytes u → t ≡ u
 unfolding table_bytes2
@@ -119,6 +116,7 @@ one_table2 bytes t u a b =
     parts.0 ∙ ap (λ m. index_bytes 0 (index_end m) u.entries) (sym count) in
     let sound : All (IsEntry t.kind t.dimension) u.entries =
     subst (λ (c : Kind). All (IsEntry c t.dimension) u.entries) (sym k) (subst (λ (m : ℕ). All (IsEntry u.kind m) u.entries) (sym n) b.0.sound) in
-    same_tables t u k n
-    (entries_once t.kind t.dimension 0 start t.entries u.entries [] [] long a.0.sound sound (omega (arith, few)) index
-    (ap (λ (l : List ℕ). l ++ []) parts.1))
+    let entries =
+    entries_once t.kind t.dimension 0 start t.entries u.entries [] [] long a.0.sound sound (omega (arith, few)) index
+    (ap (λ (l : List ℕ). l ++ []) parts.1) in
+    λ i. record { kind = k i; dimension = n i; entries = entries i }

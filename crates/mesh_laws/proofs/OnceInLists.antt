@@ -5,6 +5,7 @@ use Rattle.std.specs.Cmp.Lexicographic.{slice_cmp}
 use Rattle.std.specs.declared.cmp.Ordering.TheVariants.{Less, Equal, Greater}
 use Rattle.std.specs.List.Sorted.{IsNonDecreasing, IsPermutation, IsSorted}
 use Rattle.std.specs.Ordering.{is_lt, nat_cmp, ordering_then}
+use Rattle.std.proofs.lemmas.Bool.{cases_lt}
 use Rattle.std.proofs.lemmas.Bool.Decides.{nat_tests}
 use Rattle.std.proofs.lemmas.Cmp.{nat_list_cmp_total}
 use Rattle.std.proofs.lemmas.List.Sorted.{ranks_by, sorted_far, sum_by-IsPermutation}
@@ -12,7 +13,6 @@ use Rattle.std.proofs.lemmas.Slice.Eq.{bytes_eq-Decides}
 use Rattle.lists.specs.Orders.{inversions, same_list, sorted}
 use Rattle.lists.proofs.Sorting.{bit, count_by-cons, count-sorted, inversions-sorted}
 use Rattle.mesh_laws.specs.FaceKeys.{is_once_at}
-use Rattle.mesh_laws.proofs.RoundPlaces.{below_or}
 
 -- ---- counts of a list in a list of lists
 
@@ -117,7 +117,7 @@ module _ (ks : List (List ℕ)) (up : IsSorted (slice_cmp nat_cmp) ks) where
   pub once_at : (i : ℕ) → i < length ks → (0 < i → slice_index_or ks (i - 1) [] ≢ slice_index_or ks i [])
       → (i + 1 < length ks → slice_index_or ks (i + 1) [] ≢ slice_index_or ks i []) → is_once_at ks i ≡ true
   once_at i h below above =
-      let one = counted_once ks i h (λ j l n e. elim (below_or j i) as (λ _. ⊥) [
+      let one = counted_once ks i h (λ j l n e. elim (cases_lt j i) as (λ _. ⊥) [
         | inl less ↦ below (omega (arith, less)) (between j (i - 1) i (omega (arith, less)) (omega arith) h e)
         | inr more ↦
             let far : i + 1 ≤ j = above_it j more n in
@@ -126,7 +126,7 @@ module _ (ks : List (List ℕ)) (up : IsSorted (slice_cmp nat_cmp) ks) where
       ap (λ (n : ℕ). n == 1) one
     where
       above_it : (j : ℕ) → i ≤ j → j ≢ i → i + 1 ≤ j
-      above_it j l n = elim (below_or i j) as (λ _. i + 1 ≤ j) [
+      above_it j l n = elim (cases_lt i j) as (λ _. i + 1 ≤ j) [
         | inl m ↦ omega (arith, m)
         | inr m ↦ absurd (n (omega (arith, l, m)))
       ]

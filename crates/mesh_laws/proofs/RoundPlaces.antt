@@ -4,7 +4,7 @@ use Rattle.std.specs.Prelude.{Contains, Option, Some, None, find, option_map, sl
 use Rattle.std.proofs.Common.{ltb}
 use Rattle.std.specs.List.Sorted.{IsNonDecreasingBy, IsBinarySearchResult, IsPartitionPoint}
 use Rattle.std.specs.Ordering.{nat_cmp}
-use Rattle.std.proofs.lemmas.Bool.{cases_eq, false_from_ne_true}
+use Rattle.std.proofs.lemmas.Bool.{cases_eq, cases_lt, false_from_ne_true}
 use Rattle.std.proofs.lemmas.Bool.Decides.{nat_tests}
 use Rattle.std.proofs.lemmas.List.Elements.{Contains-append_left, Contains-append_right}
 use Rattle.std.proofs.lemmas.List.Sorted.{searched, Contains-permutation, IsPermutation-sym}
@@ -16,9 +16,6 @@ use Rattle.iso_model.proofs.WalkLaws.{has-Decides}
 use Rattle.mesh_laws.specs.declared.rounds.Begin.{Begin}
 use Rattle.mesh_laws.proofs.FaceOf.{In-at}
 use Rattle.mesh_laws.specs.Rounds.{AreBegins, AreEnds, AreListed, IsFirstPlace, LacksPlace, IsFirstWith}
-
-pub below_or : (k i : ℕ) → (k < i) ⊎ (i ≤ k)
-below_or k i = grind arith
 
 -- ---- a search of ends
 
@@ -35,7 +32,7 @@ end_found qs ends x (Err i) a s =
         → Contains ends x → ⊥
     never m c =
         let same : slice_index_or ends c.0 0 ≡ x = any_default ends c.0 0 x c.1 ∙ c.2 in
-        elim (below_or c.0 i) as (λ _. ⊥) [
+        elim (cases_lt c.0 i) as (λ _. ⊥) [
           | inl l ↦ let less = m.1 c.0 l in omega (arith, less, same)
           | inr l ↦ let more = m.2 c.0 l c.1 in omega (arith, more, same)
         ]
@@ -51,7 +48,7 @@ module _ (ps : List ℕ) (begins : List Begin) (p index : ℕ) (a : AreBegins ps
     (point : IsPartitionPoint (λ (b : Begin). ltb b.p p ≡ true) (λ (b : Begin). ltb b.p p ≡ false) begins index) where
   -- the begin of a place with this p stands from the index on
   from_index : (m : ℕ) (d : Begin) → m < length begins → (slice_index_or begins m d).p ≡ p → index ≤ m
-  from_index m d l e = elim (below_or m index) as (λ _. index ≤ m) [
+  from_index m d l e = elim (cases_lt m index) as (λ _. index ≤ m) [
     | inl h ↦ absurd (let test = point.0 m d (omega arith) h in clash (slice_index_or begins m d).p p e test)
     | inr h ↦ h
   ]
@@ -91,7 +88,7 @@ module _ (ps : List ℕ) (begins : List Begin) (p index : ℕ) (a : AreBegins ps
 
 pub listed_more : (ps : List ℕ) (begins : List Begin) (n : ℕ) (b : Begin) → AreListed ps n begins → b ≡ record { p = slice_index ps n; place = n }
     → AreListed ps (n + 1) (begins ++ b ∷ [])
-listed_more ps begins n b a e i h = elim (below_or i n) as (λ _. Contains (begins ++ b ∷ []) (record { p = slice_index ps i; place = i })) [
+listed_more ps begins n b a e i h = elim (cases_lt i n) as (λ _. Contains (begins ++ b ∷ []) (record { p = slice_index ps i; place = i })) [
   | inl l ↦ Contains-append_left begins (b ∷ []) (record { p = slice_index ps i; place = i }) (a i l)
   | inr l ↦
       let same : i ≡ n = omega (arith, h, l) in

@@ -4,7 +4,7 @@ use Rattle.std.specs.Prelude.{All, Contains, Option, Some, None, find, nat_eq, o
 use Rattle.std.specs.Prelude.{cond, IfSome, ◌==◌, ◌||◌, not, is_some, filter}
 use Rattle.std.specs.List.{AllAdjacentBelow, list_any, last_or}
 use Rattle.std.specs.Option.{option_eq, option_map_or, option_or}
-use Rattle.std.proofs.lemmas.Bool.{cases_eq, and_from}
+use Rattle.std.proofs.lemmas.Bool.{cases_eq, cases_lt, and_from}
 use Rattle.std.proofs.lemmas.List.{get_or_push, get_or_append_left, get_or-map, get_or-set_same, get_or-set_other, length_push}
 use Rattle.std.proofs.lemmas.List.{map-append, append-nil, length-map}
 use Rattle.std.proofs.lemmas.List.FromFn.{length-range_with_len}
@@ -20,7 +20,7 @@ use Rattle.iso_model.proofs.WalkLaws.{has-Decides, length-distinct-le, walk_from
 use Rattle.mesh_laws.specs.declared.rounds.Corner.{Corner}
 use Rattle.mesh_laws.specs.Rounds.{numbers_of, ps_of, qs_of, corner_of, AreCornersAt, AreCornersBelow, IsFirstWith, IsStart, number_at, IsWalked}
 use Rattle.mesh_laws.specs.Rounds.{WalksFrom, IsMeeting, IsWalkRound}
-use Rattle.mesh_laws.proofs.RoundPlaces.{find_first, find_none, find_with, same_place, below_or, unequal}
+use Rattle.mesh_laws.proofs.RoundPlaces.{find_first, find_none, find_with, same_place, unequal}
 
 -- ---- triangles with how they read, place by place
 
@@ -44,7 +44,7 @@ pub starts_more : (corners : List Corner) (n : ℕ) (d : Corner)
     → ((i : ℕ) → i < n → has (qs_of corners) (slice_index (ps_of corners) i) ≡ true) → n < length corners
     → has (qs_of corners) (slice_index_or corners n d).p ≡ true
     → (i : ℕ) → i < n + 1 → has (qs_of corners) (slice_index (ps_of corners) i) ≡ true
-starts_more corners n d before h found i l = elim (below_or i n) as (λ _. has (qs_of corners) (slice_index (ps_of corners) i) ≡ true) [
+starts_more corners n d before h found i l = elim (cases_lt i n) as (λ _. has (qs_of corners) (slice_index (ps_of corners) i) ≡ true) [
   | inl b ↦ before i b
   | inr b ↦
       let same : i ≡ n = omega (arith, l, b) in
@@ -117,7 +117,7 @@ sets_out corners first met clear simplices k a = record {
 -- one after another, and then one more
 adjacent_more : (R : ℕ → ℕ → Type 0) (x : ℕ) (xs : List ℕ) (y : ℕ) → AllAdjacentBelow R (x ∷ xs) (length (x ∷ xs)) → R (slice_index (x ∷ xs) (length xs)) y
     → AllAdjacentBelow R ((x ∷ xs) ++ y ∷ []) (length ((x ∷ xs) ++ y ∷ []))
-adjacent_more R x xs y before last i d h = elim (below_or (i + 1) (length (x ∷ xs)))
+adjacent_more R x xs y before last i d h = elim (cases_lt (i + 1) (length (x ∷ xs)))
     as (λ _. R (slice_index_or ((x ∷ xs) ++ y ∷ []) i d) (slice_index_or ((x ∷ xs) ++ y ∷ []) (i + 1) d)) [
       | inl l ↦
           subst (λ (v : ℕ). R v (slice_index_or ((x ∷ xs) ++ y ∷ []) (i + 1) d)) (sym (get_or_append_left (x ∷ xs) (y ∷ []) d i (omega (arith, l))))
