@@ -12,7 +12,7 @@ use Rattle.iso_model.specs.Splits.{cell_count, cells_per_cube, cube_at, cube_cou
 use Rattle.lists.specs.Members.{In}
 use Rattle.split_laws.proofs.Coordinates.{cube_below, cube_in}
 use Rattle.grid_split.specs.declared.rings.Place.{Place}
-use Rattle.grid_split.specs.Rounds.{StandsAt, IsMissing, IsMissingIn, stands, before_gap, after_gap, side_at, sides_at, AreAt}
+use Rattle.grid_split.specs.Rounds.{StandsAt, IsInside, IsMissing, IsMissingIn, stands, before_gap, after_gap, side_at, sides_at, AreAt}
 
 module _ (kind : Kind) (sizes cube : List ℕ) where
   pub at_push : (places : List Place) (cells : List ℕ) (p : Place) (c : ℕ) → AreAt kind sizes cube places cells → StandsAt kind sizes cube p c
@@ -170,7 +170,7 @@ module _ (sizes cube : List ℕ) where
       (ap (λ (x : Bool). x && true) out))
   out_false (a ∷ b ∷ c ∷ []) long (suc (suc (suc i))) hi out = absurd (omega (arith, hi))
 
-  pub missing_out : (p : Place) → length p.back ≡ 3 → ((i : ℕ) → i < 3 → slice_index p.back i ≤ 1) → ((i : ℕ) → i < 3 → slice_index cube i < slice_index sizes i)
+  pub missing_out : (p : Place) → length p.back ≡ 3 → ((i : ℕ) → i < 3 → slice_index p.back i ≤ 1) → IsInside sizes cube
       → IsMissing sizes cube p → stands (sides_at sizes cube) p.back ≡ false
   missing_out p long small inside out =
       out_false p.back long out.0 out.1

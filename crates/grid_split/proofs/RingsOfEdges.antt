@@ -28,7 +28,7 @@ use Rattle.split_laws.proofs.Sharing.{EndsAreCorners, ends_of_edge}
 use Rattle.split_laws.proofs.SplitTheorems.{neighbour_is, own_midpoints}
 use Rattle.grid_split.specs.declared.rings.Place.{Place}
 use Rattle.grid_split.specs.Rounds.{sum_of, way_of, IsEdge, IsMiddle, IsWay, HasWay, IsNextTo, AreInTurn, AreOwn, AreRound, StandsAt}
-use Rattle.grid_split.specs.Rounds.{stands, before_gap, after_gap, arc_of, side_at, sides_at, AreAt}
+use Rattle.grid_split.specs.Rounds.{stands, before_gap, after_gap, arc_of, side_at, sides_at, AreAt, IsInside}
 use Rattle.grid_split.proofs.ArcSteps.{stands_in, cube_there, all_there, out_false, at_length, place_in, cell_in, at_place}
 use Rattle.grid_split.proofs.RoundsHold.{same_parts, arc_in, in_arc, three_axes, three_is}
 
@@ -357,7 +357,7 @@ module _ (kind : Kind) (sizes : List ℕ) (axes : length sizes ≡ 3) (e : Edge)
       omega (arith, sum, rank_sum_small p.rank n i hr hn hi)
 
   -- the middle cube is within the samples
-  pub within : (i : ℕ) → i < 3 → slice_index cube i < slice_index sizes i
+  pub within : IsInside sizes cube
   within i hi = let s = stood c0 has0.0 i h0 has0.1 has0.2 hi in omega (arith, s.cubes, s.small, s.inside)
 
   module _ (places : List Place) (round : AreRound kind way places) where

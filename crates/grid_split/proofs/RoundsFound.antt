@@ -12,12 +12,9 @@ use Rattle.iso_model.specs.Neighbours.{facet_offsets}
 use Rattle.split_checks.specs.AcrossTests.{next_across, next_at, move_across}
 use Rattle.grid_split.specs.declared.rings.Place.{Place}
 use Rattle.grid_split.specs.declared.rings.TheConstants.{CUBES, SIMPLICES, PYRAMIDS, CENTRES}
-use Rattle.grid_split.specs.Rounds.{sum_of, way_of, arc_of}
+use Rattle.grid_split.specs.Rounds.{number_of_way, sum_of, way_of, arc_of}
 
 -- ---- the lists, as the code has them
-
-abbrev pub way_number : List ℕ → ℕ
-way_number way = slice_index way 0 / 2 + slice_index way 1 / 2 * 2 + slice_index way 2 / 2 * 4
 
 abbrev told : List (record { now : List Place }) → List (List Place)
 told table = map (λ (b : record { now : List Place }). b.now) table
@@ -38,9 +35,9 @@ abbrev pub pyramid_places : Bool → ℕ → List Place
 pyramid_places between n = if between then slice_index_or pyramid_table n [] else slice_index_or centre_table n []
 
 abbrev pub places_of : Kind → List ℕ → List Place
-places_of Cube way = slice_index_or cube_table (way_number way) []
-places_of Simplex way = slice_index_or simplex_table (way_number way) []
-places_of Pyramid way = pyramid_places (slice_index way 0 % 2 == 0) (way_number way)
+places_of Cube way = slice_index_or cube_table (number_of_way way) []
+places_of Simplex way = slice_index_or simplex_table (number_of_way way) []
+places_of Pyramid way = pyramid_places (slice_index way 0 % 2 == 0) (number_of_way way)
 
 -- the ways of the edges of a kind
 abbrev pub ways : Kind → List (List ℕ)

@@ -26,7 +26,7 @@ use Rattle.split_laws.proofs.Midpoints.{plus_at}
 use Rattle.split_laws.proofs.Offsets.{equal_lists}
 use Rattle.split_laws.proofs.SplitTheorems.{found_across}
 use Rattle.grid_split.specs.declared.rings.Place.{Place}
-use Rattle.grid_split.specs.Rounds.{sum_of, way_of, IsWay, HasWay, IsNextTo, AreInTurn, AreOwn, stands, before_gap, after_gap, arc_of, AreRound}
+use Rattle.grid_split.specs.Rounds.{sum_of, way_of, IsBelow4, IsWay, HasWay, IsNextTo, AreInTurn, AreOwn, stands, before_gap, after_gap, arc_of, AreRound}
 use Rattle.grid_split.proofs.RoundsFound.{places_of, ways, same_place, place_of, is_listed, all_listed, has_way, has_some, goes_over, is_next, in_turn}
 use Rattle.grid_split.proofs.RoundsFound.{none_twice, last_to_first, on_both_sides, of_both, of_each_side, is_arc, are_arcs, is_round, all_round}
 use Rattle.grid_split.proofs.RoundsFound.{cubes_listed, simplices_listed, pyramids_listed, cubes_round, simplices_round, pyramids_round}
@@ -296,7 +296,7 @@ module _ (kind : Kind) (way : List ℕ) (is : IsWay kind way) where
 
   -- ---- each cell that has an edge of the way is listed
 
-  pub way_at : (i : ℕ) → i < 3 → slice_index way i < 4
+  pub way_at : IsBelow4 way
   way_at i hi = way_small (slice_index way i) (In_from way (slice_index way i) (Contains-at way i 0 (omega (arith, hi, way_long))))
 
   sum_back : (w b : ℕ) → w < 4 → (w + 4 * b) / 4 ≡ b

@@ -2,7 +2,7 @@
 --
 -- An edge is told by the sum of its ends, in quarter-units: 4 times a cube, its middle cube, and the way of the edge, below 4 in each axis. The cubes
 -- of the cells that have it stand in each axis at the middle cube, or one back.
-use Rattle.std.specs.Prelude.{◌≡◌, ℕ, nat_le, ◌+◌, ◌-◌, ◌*◌, ◌%◌, ◌<◌, ◌≤◌, ◌==◌, ◌⊎◌, Bool, true, ◌&&◌, ⊤, if◌then◌else◌, ℤ, pos, ◌+ℤ◌}
+use Rattle.std.specs.Prelude.{◌≡◌, ℕ, nat_le, ◌+◌, ◌-◌, ◌*◌, ◌/◌, ◌%◌, ◌<◌, ◌≤◌, ◌==◌, ◌⊎◌, Bool, true, ◌&&◌, ⊤, if◌then◌else◌, ℤ, pos, ◌+ℤ◌}
 use Rattle.std.specs.Prelude.{List, [], ◌∷◌, ◌++◌, map, filter, length, slice_index, slice_index_or, Contains}
 use Rattle.std.specs.List.{list_all}
 use Rattle.grid_split.specs.declared.rings.Place.{Place}
@@ -37,12 +37,20 @@ way_of sum = map (λ c. c % 4) sum
 abbrev pub IsWay : Kind → List ℕ → Type 0
 IsWay kind way = (rank : ℕ) × (n : ℕ) × (rank < cells_per_cube kind 3) × (n < edge_count kind 3) × (way_of (sum_of kind rank n) ≡ way)
 
+-- in each axis a number below 4
+abbrev pub IsBelow4 : List ℕ → Type 0
+IsBelow4 way = (i : ℕ) → i < 3 → slice_index way i < 4
+
+-- bit i is set where the high end of an edge of this way is further up axis i
+abbrev pub number_of_way : List ℕ → ℕ
+number_of_way way = slice_index way 0 / 2 + slice_index way 1 / 2 * 2 + slice_index way 2 / 2 * 4
+
 -- the sums of ends are those of the middle cube and the way
 pub record IsMiddle (low high cube way : List ℕ) : Type 0 where
   pub cubes : length cube ≡ 3
   pub ways : length way ≡ 3
   pub sums : (i : ℕ) → i < 3 → slice_index low i + slice_index high i ≡ 4 * slice_index cube i + slice_index way i
-  pub small : (i : ℕ) → i < 3 → slice_index way i < 4
+  pub small : IsBelow4 way
 
 -- ---- places
 
@@ -139,13 +147,17 @@ sides_at sizes cube =
     side_at (slice_index sizes 0) (slice_index cube 0) ∷ side_at (slice_index sizes 1) (slice_index cube 1)
     ∷ side_at (slice_index sizes 2) (slice_index cube 2) ∷ []
 
+-- in each axis the cube is within the samples
+abbrev pub IsInside : List ℕ → List ℕ → Type 0
+IsInside sizes cube = (i : ℕ) → i < 3 → slice_index cube i < slice_index sizes i
+
 -- in three dimensions, at most eight places, whose cubes stand at the middle cube or one back in each axis; the middle cube is within the samples
 pub record AreFit (kind : Kind) (sizes cube : List ℕ) (places : List Place) : Type 0 where
   pub axes : length sizes ≡ 3
   pub few : length places ≤ 8
   pub ranks : (p : Place) → Contains places p → p.rank < cells_per_cube kind 3
   pub backs : (p : Place) → Contains places p → (length p.back ≡ 3) × ((i : ℕ) → i < 3 → slice_index p.back i ≤ 1)
-  pub inside : (i : ℕ) → i < 3 → slice_index cube i < slice_index sizes i
+  pub inside : IsInside sizes cube
 
 -- cells and places, one by one
 abbrev pub AreAt : Kind → List ℕ → List ℕ → List Place → List ℕ → Type 0

@@ -1,12 +1,12 @@
-ghost use Rattle.std.specs.Prelude.{◌≡◌, ℕ, ◌+◌, ◌*◌, ◌^◌, ◌/◌, ◌<◌, ◌≤◌, length, slice_index};
-ghost use Rattle.grid_split.specs.Rounds.{IsMiddle, IsWay, AreRound};
+ghost use Rattle.std.specs.Prelude.{◌≡◌, ℕ, ◌+◌, ◌^◌, ◌<◌, ◌≤◌, length, slice_index};
+ghost use Rattle.grid_split.specs.Rounds.{number_of_way, AreRound, IsBelow4, IsMiddle, IsWay};
 
 use crate::Edge;
 use arrayvec::ArrayVec;
 use cell_lattice::Kind;
 
-/// The cells that have an edge, in turn round it: each shares a facet that has the edge with the one before it, and where
-/// the ring is closed, the first one with the last.
+/// The cells that have an edge, in turn round it: each shares a facet that has the edge with the one before it, and
+/// where the ring is closed, the first one with the last.
 #[derive(Drop)]
 pub struct Ring {
     pub cells: ArrayVec<u64, 8>,
@@ -53,8 +53,8 @@ pub(crate) fn cells_round(kind: Kind, way: &[u32; 3]) -> &'static [Place]
 
 // Bit i is set where the high end is further up axis i: by 2 between samples, and at the centre of a cube by 1.
 fn way_number(way: &[u32; 3]) -> usize
-    requires { (i : ℕ) → i < 3 → slice_index way.now i < 4 }
-    ensures number { result ≡ slice_index way.now 0 / 2 + slice_index way.now 1 / 2 * 2 + slice_index way.now 2 / 2 * 4 }
+    requires { IsBelow4 way.now }
+    ensures number { result ≡ number_of_way way.now }
     ensures few { result < 8 }
 {
     (way[0] / 2 + way[1] / 2 * 2 + way[2] / 2 * 4) as usize

@@ -4,8 +4,8 @@ use Rattle.std.proofs.Common.{arith, inl, inr}
 use Rattle.iso_model.specs.declared.Kind.{Kind}
 use Rattle.iso_model.specs.declared.Kind.TheVariants.{Cube, Simplex, Pyramid}
 use Rattle.grid_split.specs.declared.rings.Place.{Place}
-use Rattle.grid_split.specs.Rounds.{IsWay, AreRound}
-use Rattle.grid_split.proofs.RoundsFound.{places_of, way_number, cube_table, simplex_table, pyramid_table, centre_table, pyramid_places}
+use Rattle.grid_split.specs.Rounds.{IsWay, AreRound, number_of_way}
+use Rattle.grid_split.proofs.RoundsFound.{places_of, cube_table, simplex_table, pyramid_table, centre_table, pyramid_places}
 use Rattle.grid_split.proofs.RoundsHold.{rounds, eight_cases, way_at}
 use Rattle.grid_split.proofs.rings.cells_round.Goals as goal
 
@@ -55,7 +55,7 @@ returns-in-Pyramid-clause-round c =
     let between : (slice_index c.args.way.now 0 % 2 == 0) ≡ true = grind (arith, nat_tests, c.if-way-eq0.true) in
     let is : AreRound c.args.kind c.args.way.now (slice_index_or pyramid_table c.way_number-number.result []) =
     subst (λ (n : ℕ). AreRound c.args.kind c.args.way.now (slice_index_or pyramid_table n [])) (sym c.way_number-number.ensures.number)
-    (subst (λ (b : Bool). AreRound c.args.kind c.args.way.now (pyramid_places b (way_number c.args.way.now))) between
+    (subst (λ (b : Bool). AreRound c.args.kind c.args.way.now (pyramid_places b (number_of_way c.args.way.now))) between
     (round_of c.args.kind Pyramid c.args.way.now c.requires.way c.in-Pyramid.is)) in
     let at = λ (n : ℕ) (e : c.way_number-number.result ≡ n). subst (λ (m : ℕ). AreRound c.args.kind c.args.way.now (slice_index_or pyramid_table m [])) e is in
     elim (eight_cases c.way_number-number.result c.way_number-number.ensures.few) [
@@ -74,7 +74,7 @@ returns-in-Pyramid-2-clause-round c =
     let centre : (slice_index c.args.way.now 0 % 2 == 0) ≡ false = grind (arith, nat_tests, c.if-way-eq0.false) in
     let is : AreRound c.args.kind c.args.way.now (slice_index_or centre_table c.way_number-number.result []) =
     subst (λ (n : ℕ). AreRound c.args.kind c.args.way.now (slice_index_or centre_table n [])) (sym c.way_number-number.ensures.number)
-    (subst (λ (b : Bool). AreRound c.args.kind c.args.way.now (pyramid_places b (way_number c.args.way.now))) centre
+    (subst (λ (b : Bool). AreRound c.args.kind c.args.way.now (pyramid_places b (number_of_way c.args.way.now))) centre
     (round_of c.args.kind Pyramid c.args.way.now c.requires.way c.in-Pyramid.is)) in
     let at = λ (n : ℕ) (e : c.way_number-number.result ≡ n). subst (λ (m : ℕ). AreRound c.args.kind c.args.way.now (slice_index_or centre_table m [])) e is in
     elim (eight_cases c.way_number-number.result c.way_number-number.ensures.few) [
