@@ -31,9 +31,6 @@ all_inside : (kind : Kind) (d : ℕ) → IsDimension d → HasDimension kind d �
 all_inside = of_each_cell (λ kind d. lie_inside kind d ≡ true) squares_inside cubes_inside hypercubes_inside triangles_inside
     tetrahedra_inside four_simplices_inside pyramids_inside
 
-same_itself : (xs : List ℕ) → same_list xs xs ≡ true
-same_itself xs = (bytes_eq-Decides xs xs).1 refl
-
 -- a point of the cube, by its coordinates
 in_cube : (d : ℕ) (p : List ℕ) → length p ≡ d → All (λ c. c ≤ 4) p → In p (cube_points d)
 in_cube zero [] e all = inl refl
@@ -44,9 +41,6 @@ in_cube (suc d) (c ∷ p) e all =
     let first : c ≤ 4 = All-head (λ n. n ≤ 4) c p all in
     In-flat_map (λ r. map (λ n. n ∷ r) (numbers 5)) (cube_points d) p (c ∷ p) rest
     (In-map (λ n. n ∷ p) (numbers 5) c (In-numbers 5 c (omega arith)))
-
-all_small : (p : List ℕ) → list_all (λ c. nat_le c 4) p ≡ true → All (λ c. c ≤ 4) p
-all_small p t = All-from_In (λ c. c ≤ 4) p (λ c there. leb-true c 4 (all_In (λ n. nat_le n 4) p t c there))
 
 -- what the test says of a point
 by_test : (kind : Kind) (d : ℕ) (p : List ℕ) (b : Bool) → is_middle kind p ≡ b
@@ -60,7 +54,7 @@ by_test kind d p true e t = (
 )
 by_test kind d p false e t = (
   λ m.
-      let there = any_from (same_list p) (cube_middles kind d) p m (same_itself p) in
+      let there = any_from (same_list p) (cube_middles kind d) p m ((bytes_eq-Decides p p).1 refl) in
       absurd (false≢true (sym (ap not there) ∙ t)),
   λ is. absurd (false≢true (sym e ∙ is)),
 )
@@ -74,7 +68,8 @@ has_all kind d is fits m =
       λ there.
           let in_it = all_In (λ q. (length q == d) && list_all (λ c. nat_le c 4) q) (cube_middles kind d) (all_inside kind d is fits) m there in
           let long : length m ≡ d = equal_of (length m) d (and_left (length m == d) (list_all (λ c. nat_le c 4) m) in_it) in
-          let small = all_small m (and_right (length m == d) (list_all (λ c. nat_le c 4) m) in_it) in
+          let few = and_right (length m == d) (list_all (λ c. nat_le c 4) m) in_it in
+          let small = All-from_In (λ c. c ≤ 4) m (λ c inside. leb-true c 4 (all_In (λ n. nat_le n 4) m few c inside)) in
           (long, small, (by_test kind d m (is_middle kind m) refl (test m (in_cube d m long small))).0 there),
       λ can. (by_test kind d m (is_middle kind m) refl (test m (in_cube d m can.0 can.1))).1 can.2,
     )

@@ -32,12 +32,9 @@ pub long_cube : (sizes : List ℕ) (n : ℕ) → length (cube_at sizes n) ≡ le
 long_cube [] n = refl
 long_cube (s ∷ sizes) n = ap suc (long_cube sizes (n / (s - 1)))
 
-long_point : (d : ℕ) (f : ℕ → ℕ) → length (point d f) ≡ d
-long_point d f = length-map-range_with_len f 0 d
-
 pub long_offset : (kind : Kind) (d rank k : ℕ) → HasDimension kind d → length (corner_offset kind d rank k) ≡ d
-long_offset Cube d rank k h = long_point d (λ i. 2 * bit_at k i)
-long_offset Simplex d rank k h = long_point d (λ i. 2 * count_by (nat_eq i) (take k (axis_order d rank)))
+long_offset Cube d rank k h = length-map-range_with_len (λ i. 2 * bit_at k i) 0 d
+long_offset Simplex d rank k h = length-map-range_with_len (λ i. 2 * count_by (nat_eq i) (take k (axis_order d rank))) 0 d
 long_offset Pyramid d rank k h = by_case (k == 4) ∙ sym h
   where
     by_case : (t : Bool) → length (if t then point 3 (λ i. 1) else point 3 (λ i. if i == base_axis rank then 2 * base_side rank

@@ -4,6 +4,7 @@ use Rattle.std.specs.Prelude.{Bool, List, [], ◌∷◌, false, true, length, ma
 use Rattle.iso_model.specs.Points.{comes_first}
 use Rattle.iso_model.specs.Splits.{edge_of_ends}
 use Rattle.lists.specs.Orders.{same_list}
+use Rattle.lists.proofs.MemberLaws.{length_map}
 use Rattle.lists.proofs.Tests.{same_tests, equal_of, of_equal, lt_of, of_lt}
 use Rattle.edge_middles.specs.Middles.{edge_at, joins_samples, sample_edge, centre_edge}
 use Rattle.edge_middles.specs.MovedEdges.{moved, moved_edge}
@@ -63,10 +64,6 @@ ends_moved x p q e h =
     ap (λ t. if t then record { low = moved 2 x p; high = moved 2 x q } else record { low = moved 2 x q; high = moved 2 x p }) (first_moved x p q e h)
     ∙ chosen x p q (comes_first p q)
 
-long_map : (f : ℕ → ℕ) (m : List ℕ) → length (map f m) ≡ length m
-long_map f [] = refl
-long_map f (k ∷ m) = ap suc (long_map f m)
-
 pub moves_edges : (x m : List ℕ) → length x ≡ length m → edge_at (moved 4 x m) ≡ moved_edge x (edge_at m)
 moves_edges x m e =
     let low = moved_map (λ c. 2 * (c / 4)) (λ c k. omega arith) x m in
@@ -76,7 +73,7 @@ moves_edges x m e =
     let samples : sample_edge (moved 4 x m) ≡ moved_edge x (sample_edge m) = λ i. record { low = low i; high = high i } in
     let centres : centre_edge (moved 4 x m) ≡ moved_edge x (centre_edge m) =
     (λ i. edge_of_ends (corner i) (centre i)) ∙ ends_moved x (map (λ c. 2 * ((c + 1) / 4)) m) (map (λ c. 2 * (c / 4) + 1) m)
-    (long_map (λ c. 2 * ((c + 1) / 4)) m ∙ sym e) (long_map (λ c. 2 * (c / 4) + 1) m ∙ sym e) in
+    (length_map (λ c. 2 * ((c + 1) / 4)) m ∙ sym e) (length_map (λ c. 2 * (c / 4) + 1) m ∙ sym e) in
     (λ i. if joins_same x m e i then samples i else centres i) ∙ by_case (joins_samples m)
   where
     by_case : (t : Bool) → (if t then moved_edge x (sample_edge m) else moved_edge x (centre_edge m))
