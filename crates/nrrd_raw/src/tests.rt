@@ -435,45 +435,49 @@ fn samples_are_read_behind_a_header(rt: HostRuntime) -> Result<(), Fail> {
     Ok(())
 }
 
+const SHORTS: &str =
+    "NRRD0001\ntype: ushort\nendian: big\ndimension: 2\nsizes: 1 3\nencoding: raw\n\n";
+
+const CUBE: &str = "NRRD0001\ntype: uint8\ndimension: 3\nsizes: 2 1 1\nencoding: raw\n\n";
+
+// Lines, the bytes behind them, how many slices are given and their samples, and the refusal, or none where the file
+// ends.
+const SLICES: [(&str, &str, usize, &[i64], Option<GridFault>); 12] = [
+    (SQUARE, "", 0, &[], Some(GridFault::DataShort(0))),
+    (SQUARE, "a", 0, &[], Some(GridFault::DataShort(1))),
+    (SQUARE, "ab", 1, &[97, 98], Some(GridFault::DataShort(2))),
+    (SQUARE, "abc", 1, &[97, 98], Some(GridFault::DataShort(3))),
+    (SQUARE, "abcd", 2, &[97, 98, 99, 100], None),
+    (
+        SQUARE,
+        "abcde",
+        2,
+        &[97, 98, 99, 100],
+        Some(GridFault::Trailing),
+    ),
+    (
+        SHORTS,
+        "abcde",
+        2,
+        &[24930, 25444],
+        Some(GridFault::DataShort(5)),
+    ),
+    (SHORTS, "abcdef", 3, &[24930, 25444, 25958], None),
+    (
+        SHORTS,
+        "abcdefg",
+        3,
+        &[24930, 25444, 25958],
+        Some(GridFault::Trailing),
+    ),
+    (CUBE, "a", 0, &[], Some(GridFault::DataShort(1))),
+    (CUBE, "ab", 1, &[97, 98], None),
+    (CUBE, "abc", 1, &[97, 98], Some(GridFault::Trailing)),
+];
+
 #[test]
 fn slices_are_given_up_to_the_end_of_the_file(rt: HostRuntime) -> Result<(), Fail> {
-    let shorts = "NRRD0001\ntype: ushort\nendian: big\ndimension: 2\nsizes: 1 3\nencoding: raw\n\n";
-    let cube = "NRRD0001\ntype: uint8\ndimension: 3\nsizes: 2 1 1\nencoding: raw\n\n";
-    // Lines, the bytes behind them, how many slices are given and their samples, and the refusal, or none where the file
-    // ends.
-    let cases: [(&str, &str, usize, &[i64], Option<GridFault>); 12] = [
-        (SQUARE, "", 0, &[], Some(GridFault::DataShort(0))),
-        (SQUARE, "a", 0, &[], Some(GridFault::DataShort(1))),
-        (SQUARE, "ab", 1, &[97, 98], Some(GridFault::DataShort(2))),
-        (SQUARE, "abc", 1, &[97, 98], Some(GridFault::DataShort(3))),
-        (SQUARE, "abcd", 2, &[97, 98, 99, 100], None),
-        (
-            SQUARE,
-            "abcde",
-            2,
-            &[97, 98, 99, 100],
-            Some(GridFault::Trailing),
-        ),
-        (
-            shorts,
-            "abcde",
-            2,
-            &[24930, 25444],
-            Some(GridFault::DataShort(5)),
-        ),
-        (shorts, "abcdef", 3, &[24930, 25444, 25958], None),
-        (
-            shorts,
-            "abcdefg",
-            3,
-            &[24930, 25444, 25958],
-            Some(GridFault::Trailing),
-        ),
-        (cube, "a", 0, &[], Some(GridFault::DataShort(1))),
-        (cube, "ab", 1, &[97, 98], None),
-        (cube, "abc", 1, &[97, 98], Some(GridFault::Trailing)),
-    ];
-    for (lines, data, count, samples, refusal) in cases {
+    for (lines, data, count, samples, refusal) in SLICES {
         let text = format!(in rt.alloc(); "{lines}{data}")?;
         for step in STEPS {
             let mut shelf = shelf_of(rt.alloc(), text.as_bytes(), step)?;
