@@ -9,21 +9,17 @@ use Rattle.lists.specs.Orders.{choices}
 use Rattle.face_tallies.specs.Tallies.{IsFace}
 use Rattle.lists.specs.Bits.{is_set, set_number}
 use Rattle.lists.specs.Members.{In, Climbs, Ascends}
-use Rattle.lists.proofs.MemberLaws.{In-map, from_In-map, In-append_left, In-append_right, from_In-append, map-map, In_of_has, has_of_In}
+use Rattle.lists.proofs.Contained.{Contains-at}
+use Rattle.lists.proofs.MemberLaws.{In_from, In-map, from_In-map, In-append_left, In-append_right, from_In-append, map-map, In_of_has, has_of_In}
 use Rattle.lists.proofs.Ascending.{Climbs-filter, ascends_of}
 use Rattle.lists.proofs.Bits.{bit_of_set, same_sets, set_and, part_of_set, same_from_number}
 use Rattle.lists.proofs.Tests.{same_tests, next_place}
 
 -- ---- lists in order
 
-at_in : {X : Type 0} (xs : List X) (k : ℕ) (d : X) → k < length xs → In (slice_index_or xs k d) xs
-at_in [] k d h = absurd (omega arith)
-at_in (x ∷ xs) zero d h = inl refl
-at_in (x ∷ xs) (suc k) d h = inr (at_in xs k d (omega arith))
-
 pub steps_of_climb : {X : Type 0} (key : X → ℕ) (xs : List X) → Climbs key xs → AllAdjacentBelow (λ a b. key a < key b) xs (length xs)
 steps_of_climb key [] c k d h = absurd (omega (arith, h))
-steps_of_climb key (x ∷ xs) c zero d h = c.0 _ (at_in xs 0 d (omega (arith, h)))
+steps_of_climb key (x ∷ xs) c zero d h = c.0 _ (In_from xs _ (Contains-at xs 0 d (omega (arith, h))))
 steps_of_climb key (x ∷ xs) c (suc k) d h =
     subst (λ (n : ℕ). key (slice_index_or xs k d) < key (slice_index_or (x ∷ xs) n d)) (next_place k) (steps_of_climb key xs c.1 k d (omega (arith, h)))
 
@@ -129,7 +125,7 @@ choice_within n edges c a i =
     (bit_of_set edges a e ∙ has_of_In edges e (k.members e (In_of_has c e (sym (bit_of_set c k.ascends e) ∙ h))))))
 
 each_small : (n : ℕ) (xs : List ℕ) → ((y : ℕ) → In y xs → y < n) → All (λ y. y < n) xs
-each_small n xs h k d less = h _ (at_in xs k d less)
+each_small n xs h k d less = h _ (In_from xs _ (Contains-at xs k d less))
 
 pub choice_is_face : (d : ℕ) (edges c : List ℕ) → 1 ≤ d → Ascends edges → ((y : ℕ) → In y edges → y < 32) → In c (choices (d - 1) edges) → IsFace d c
 choice_is_face d edges c some a small i =

@@ -2,7 +2,7 @@
 use Rattle.std.specs.Prelude.{◌≡◌, ◌↔◌, ℕ, ℤ, zero, suc, ◌+◌, ◌*◌, ◌^◌, ◌<◌, ◌≤◌, Bool, true, false, ◌&&◌, List, [], ◌∷◌, map, filter, length, All}
 use Rattle.std.specs.Prelude.{slice_index_or}
 use Rattle.std.proofs.Common.{get_or, refl, sym, ap, ◌∙◌, subst, arith, inl, inr}
-use Rattle.std.proofs.lemmas.Bool.{cases_eq, cases_lt, and_from}
+use Rattle.std.proofs.lemmas.Bool.{cases_eq, cases_lt, and_from, and_right}
 use Rattle.std.proofs.lemmas.Nat.{pow-add}
 use Rattle.iso_model.specs.declared.Kind.{Kind}
 use Rattle.lists.specs.Orders.{numbers}
@@ -342,17 +342,13 @@ keeps_all t label (s ∷ ss) x h =
     and_from (keeps_seam t label (seam_of s)) (rule_seams (seams_of ss) t label) (h 0 (omega arith))
     (keeps_all t label ss x (λ k less. h (suc k) (omega arith)))
 
-and_no : (b : Bool) → (b && false) ≡ false
-and_no true = refl
-and_no false = refl
-
 -- a label that fails at one of the seams fails the rule over them
 pub fails_one : (t : Table) (label : ℕ) (ss : List FacetSeam) (k : ℕ) (x : FacetSeam) → k < length ss
     → keeps_seam t label (seam_of (slice_index_or ss k x)) ≡ false → rule_seams (seams_of ss) t label ≡ false
 fails_one t label [] k x less f = absurd (omega arith)
 fails_one t label (s ∷ ss) zero x less f = ap (λ b. b && rule_seams (seams_of ss) t label) f
 fails_one t label (s ∷ ss) (suc k) x less f =
-    ap (λ b. keeps_seam t label (seam_of s) && b) (fails_one t label ss k x (omega arith) f) ∙ and_no (keeps_seam t label (seam_of s))
+    ap (λ b. keeps_seam t label (seam_of s) && b) (fails_one t label ss k x (omega arith) f) ∙ and_right (keeps_seam t label (seam_of s)) false refl
 
 -- each seam of a list of seams of the cell is one
 pub seam_said : (kind : Kind) (d : ℕ) (ss : List FacetSeam) (k : ℕ) (x : FacetSeam) → AreSeamsOf kind d (seams_of ss) → k < length ss
