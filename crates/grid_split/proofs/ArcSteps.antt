@@ -11,8 +11,10 @@ use Rattle.std.proofs.Math.Nat.{mul_comm}
 use Rattle.iso_model.specs.Splits.{cell_count, cells_per_cube, cube_at, cube_count, cube_of}
 use Rattle.lists.specs.Members.{In}
 use Rattle.split_laws.proofs.Coordinates.{cube_below, cube_in}
-use Rattle.grid_split.specs.declared.rings.Place.{Place}
-use Rattle.grid_split.specs.Rounds.{StandsAt, IsInside, IsMissing, IsMissingIn, stands, before_gap, after_gap, side_at, sides_at, AreAt}
+use Rattle.split_checks.specs.declared.rounds.Place.{Place}
+use Rattle.split_checks.specs.CellsRound.{stands, before_gap, after_gap}
+use Rattle.split_laws.specs.RoundEdges.{StandsAt, side_at, sides_at, AreAt}
+use Rattle.split_laws.proofs.PlacesThere.{all_there, cube_there, stands_in}
 
 module _ (kind : Kind) (sizes cube : List ℕ) where
   pub at_push : (places : List Place) (cells : List ℕ) (p : Place) (c : ℕ) → AreAt kind sizes cube places cells → StandsAt kind sizes cube p c
@@ -28,38 +30,6 @@ module _ (kind : Kind) (sizes cube : List ℕ) where
   at_join [] more (d ∷ cells) further all rest = absurd all
   at_join (q ∷ places) more [] further all rest = absurd all
   at_join (q ∷ places) more (d ∷ cells) further all rest = (all.0, at_join places more cells further all.1 rest)
-
-  pub at_length : (places : List Place) (cells : List ℕ) → AreAt kind sizes cube places cells → length cells ≡ length places
-  at_length [] [] all = refl
-  at_length [] (d ∷ cells) all = absurd all
-  at_length (q ∷ places) [] all = absurd all
-  at_length (q ∷ places) (d ∷ cells) all = ap suc (at_length places cells all.1)
-
-  -- the place of a cell
-  pub place_in : (places : List Place) (cells : List ℕ) → AreAt kind sizes cube places cells → (c : ℕ) → In c cells
-      → (p : Place) × In p places × StandsAt kind sizes cube p c
-  place_in [] [] all c i = absurd i
-  place_in [] (d ∷ cells) all c i = absurd all
-  place_in (q ∷ places) [] all c i = absurd i
-  place_in (q ∷ places) (d ∷ cells) all c (inl e) = (q, inl refl, subst (StandsAt kind sizes cube q) (sym e) all.0)
-  place_in (q ∷ places) (d ∷ cells) all c (inr i) = let r = place_in places cells all.1 c i in (r.0, inr r.1, r.2)
-
-  -- the cell at a place
-  pub cell_in : (places : List Place) (cells : List ℕ) → AreAt kind sizes cube places cells → (p : Place) → In p places
-      → (c : ℕ) × In c cells × StandsAt kind sizes cube p c
-  cell_in [] [] all p i = absurd i
-  cell_in [] (d ∷ cells) all p i = absurd i
-  cell_in (q ∷ places) [] all p i = absurd all
-  cell_in (q ∷ places) (d ∷ cells) all p (inl e) = (d, inl refl, subst (λ (x : Place). StandsAt kind sizes cube x d) (sym e) all.0)
-  cell_in (q ∷ places) (d ∷ cells) all p (inr i) = let r = cell_in places cells all.1 p i in (r.0, inr r.1, r.2)
-
-  pub at_place : (places : List Place) (cells : List ℕ) → AreAt kind sizes cube places cells → (i : ℕ) (d : Place) (c : ℕ) → i < length places
-      → StandsAt kind sizes cube (slice_index_or places i d) (slice_index_or cells i c)
-  at_place [] [] all i d c h = absurd (omega (arith, h))
-  at_place [] (x ∷ cells) all i d c h = absurd all
-  at_place (q ∷ places) [] all i d c h = absurd all
-  at_place (q ∷ places) (x ∷ cells) all zero d c h = all.0
-  at_place (q ∷ places) (x ∷ cells) all (suc i) d c h = at_place places cells all.1 i d c (omega (arith, h))
 
 -- ---- one place more
 
@@ -128,54 +98,7 @@ module _ (sides : List (Bool × Bool)) where
 
 -- ---- cubes that are there
 
--- whether a cube stands this far back, in one axis
-abbrev pub stands_in : ℕ → ℕ → ℕ → Bool
-stands_in size x b = if b == 0 then (side_at size x).0 else (side_at size x).1
-
-pub cube_there : (size x y b : ℕ) → y + b ≡ x → b ≤ 1 → y + 1 < size → stands_in size x b ≡ true
-cube_there size x y zero same small inside = grind (arith, nat_tests)
-cube_there size x y (suc zero) same small inside = grind (arith, nat_tests)
-cube_there size x y (suc (suc b)) same small inside = absurd (omega (arith, small))
-
-missing_one : (size x b : ℕ) → b ≤ 1 → x < size → IsMissingIn size x b → stands_in size x b ≡ false
-missing_one size x zero small inside (inl first) = absurd (omega (arith, first))
-missing_one size x zero small inside (inr last) = grind (arith, nat_tests, last)
-missing_one size x (suc zero) small inside (inl first) = grind (arith, nat_tests, first)
-missing_one size x (suc zero) small inside (inr last) = absurd (omega (arith, last, inside))
-missing_one size x (suc (suc b)) small inside out = absurd (omega (arith, small))
-
-pub all_there : (a b c : Bool) → a ≡ true → b ≡ true → c ≡ true → (a && (b && (c && true))) ≡ true
-all_there true true true p q r = refl
-all_there true true false p q r = r
-all_there true false c p q r = q
-all_there false b c p q r = p
-
 module _ (sizes cube : List ℕ) where
-  pub out_false : (back : List ℕ) → length back ≡ 3 → (i : ℕ) → i < 3
-      → stands_in (slice_index sizes i) (slice_index cube i) (slice_index back i) ≡ false → stands (sides_at sizes cube) back ≡ false
-  out_false [] long i hi out = absurd (omega (arith, long))
-  out_false (a ∷ []) long i hi out = absurd (omega (arith, long))
-  out_false (a ∷ b ∷ []) long i hi out = absurd (omega (arith, long))
-  out_false (a ∷ b ∷ c ∷ d ∷ back) long i hi out = absurd (omega (arith, long))
-  out_false (a ∷ b ∷ c ∷ []) long zero hi out =
-      ap (λ (x : Bool). x && (stands_in (slice_index sizes 1) (slice_index cube 1) b && (stands_in (slice_index sizes 2) (slice_index cube 2) c && true))) out
-  out_false (a ∷ b ∷ c ∷ []) long (suc zero) hi out =
-      and_right (stands_in (slice_index sizes 0) (slice_index cube 0) a)
-      (stands_in (slice_index sizes 1) (slice_index cube 1) b && (stands_in (slice_index sizes 2) (slice_index cube 2) c && true))
-      (ap (λ (x : Bool). x && (stands_in (slice_index sizes 2) (slice_index cube 2) c && true)) out)
-  out_false (a ∷ b ∷ c ∷ []) long (suc (suc zero)) hi out =
-      and_right (stands_in (slice_index sizes 0) (slice_index cube 0) a)
-      (stands_in (slice_index sizes 1) (slice_index cube 1) b && (stands_in (slice_index sizes 2) (slice_index cube 2) c && true))
-      (and_right (stands_in (slice_index sizes 1) (slice_index cube 1) b) (stands_in (slice_index sizes 2) (slice_index cube 2) c && true)
-      (ap (λ (x : Bool). x && true) out))
-  out_false (a ∷ b ∷ c ∷ []) long (suc (suc (suc i))) hi out = absurd (omega (arith, hi))
-
-  pub missing_out : (p : Place) → length p.back ≡ 3 → ((i : ℕ) → i < 3 → slice_index p.back i ≤ 1) → IsInside sizes cube
-      → IsMissing sizes cube p → stands (sides_at sizes cube) p.back ≡ false
-  missing_out p long small inside out =
-      out_false p.back long out.0 out.1
-      (missing_one (slice_index sizes out.0) (slice_index cube out.0) (slice_index p.back out.0) (small out.0 out.1) (inside out.0 out.1) out.2)
-
   there_list : (back : List ℕ) → length back ≡ 3
       → ((i : ℕ) → i < 3 → stands_in (slice_index sizes i) (slice_index cube i) (slice_index back i) ≡ true) → stands (sides_at sizes cube) back ≡ true
   there_list [] long each = absurd (omega (arith, long))
@@ -192,24 +115,6 @@ module _ (sizes cube : List ℕ) where
       there_list p.back long (λ i hi.
       cube_there (slice_index sizes i) (slice_index cube i) (slice_index (cube_of kind sizes c) i) (slice_index p.back i) (at.cubes i hi) (small i hi)
       (cube_below sizes (c / cells_per_cube kind (length sizes)) (cube_in kind sizes c at.is_cell) i (omega (arith, hi, axes))))
-
--- the cell of this rank in the cube of this number stands at the place
-pub stands_from : (kind : Kind) (sizes cube : List ℕ) (p : Place) (number : ℕ) → length sizes ≡ 3 → number < cube_count sizes
-    → p.rank < cells_per_cube kind 3 → ((i : ℕ) → i < 3 → slice_index (cube_at sizes number) i + slice_index p.back i ≡ slice_index cube i)
-    → StandsAt kind sizes cube p (number * cells_per_cube kind 3 + p.rank)
-stands_from kind sizes cube p number axes below hr at =
-    let per : cells_per_cube kind 3 ≡ cells_per_cube kind (length sizes) = ap (cells_per_cube kind) (sym axes) in
-    let found = number * cells_per_cube kind 3 + p.rank in
-    let quotient : found / cells_per_cube kind (length sizes) ≡ number =
-    ap (λ (n : ℕ). found / n) (sym per) ∙ div-mul-add number (cells_per_cube kind 3) p.rank hr in
-    record {
-      is_cell =
-          subst (λ (n : ℕ). found < cube_count sizes * n) per
-          (subst (λ (n : ℕ). found < n) (mul_comm (cells_per_cube kind 3) (cube_count sizes))
-          (mul-add-lt number (cells_per_cube kind 3) p.rank (cube_count sizes) below hr));
-      rank = ap (λ (n : ℕ). found % n) (sym per) ∙ mod-mul-add number (cells_per_cube kind 3) p.rank hr;
-      cubes = λ i hi. ap (λ (x : ℕ). slice_index (cube_at sizes x) i + slice_index p.back i) quotient ∙ at i hi;
-    }
 
 -- ---- the cells met so far
 

@@ -3,7 +3,4 @@ pub mod CubeNumbers
 pub mod Before
 pub mod PlaceSums
 pub mod NeighbourFound
-pub mod RoundsFound
-pub mod RoundsHold
-pub mod RingsOfEdges
 pub mod ArcSteps

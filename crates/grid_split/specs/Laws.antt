@@ -2,9 +2,10 @@
 use Rattle.std.specs.Prelude.{◌≡◌, ◌<◌, ◌↔◌, ℕ, List, length}
 use Rattle.iso_model.specs.declared.Kind.{Kind}
 use Rattle.iso_model.specs.Cells.{facet_count}
-use Rattle.iso_model.specs.Splits.{cells_per_cube, cell_count}
+use Rattle.iso_model.specs.Splits.{cells_per_cube, cell_count, Edge}
 use Rattle.iso_model.specs.Neighbours.{facet_points, IsAcross, IsNeighbour, OnOuterBoundary, ShareLaw}
 use Rattle.iso_model.specs.SplitLaws.{AcrossLeadsBack, AreJoined, KeepsTurns}
+use Rattle.split_laws.specs.RoundEdges.{HasRing, IsEdge}
 use Rattle.split_laws.specs.Standing.{StandsAcross, LeavesGrid}
 
 -- across each facet of each cell there is a way back
@@ -28,6 +29,10 @@ KeepsAllTurns kind d = (rank : ℕ) (rows : List ((ℕ × ℕ) × (ℕ × ℕ)))
 -- what two cells of a grid share lies in a facet of each
 abbrev pub SharesFacets : Kind → ℕ → Type 0
 SharesFacets kind d = (sizes : List ℕ) → length sizes ≡ d → (cell other : ℕ) (es : List ℕ) → ShareLaw kind sizes cell other es
+
+-- in three dimensions the cells that have an edge are one ring
+abbrev pub HasRings : Kind → ℕ → Type 0
+HasRings kind d = d ≡ 3 → (sizes : List ℕ) → length sizes ≡ d → (e : Edge) → IsEdge kind sizes e → HasRing kind sizes e
 
 -- the neighbour across a facet is the cell that stands there
 abbrev pub HasNeighboursAcross : Kind → ℕ → Type 0

@@ -2,4 +2,4 @@ pub mod Shifts
 pub mod Strides
 pub mod Steps
 pub mod Laws
-pub mod Rounds
+pub mod EdgeEnds

@@ -4,11 +4,13 @@ ghost use Rattle.grid_split.specs.Steps.{IsStep, stepped, LeavesAxis, LeavesCube
 ghost use Rattle.iso_model.specs.Points.{point, comes_first};
 ghost use Rattle.iso_model.specs.Splits.{cells_per_cube, cell_count, cube_of, rank_of, corner as corner_of, edge as edge_of, edge_of_ends, is_odd_cell};
 ghost use Rattle.iso_model.specs.Neighbours.{facet_points, IsNeighbour, IsRing, OnOuterBoundary};
-ghost use Rattle.grid_split.specs.Rounds.{as_edge, IsEdge, StandsAt, IsMissing, IsMissingIn, AreFit, IsArc};
+ghost use Rattle.split_laws.specs.RoundEdges.{IsEdge, StandsAt, IsMissing, IsMissingIn, AreFit, IsArc};
+ghost use Rattle.grid_split.specs.EdgeEnds.{as_edge};
 
-use crate::rings::{Place, Ring, cells_round, middle};
+use crate::rings::{Ring, cells_round, middle};
 use crate::{Edge, Split};
 use arrayvec::ArrayVec;
+use split_checks::Place;
 use std::marker::{Model, PhantomData};
 
 /// The cells of a grid. A cell's number is its cube's number times the cells of a cube, plus its rank; cubes are

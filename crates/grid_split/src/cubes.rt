@@ -1,6 +1,7 @@
 ghost use Rattle.std.specs.Prelude.{ℕ, ◌<◌, ◌≤◌, ◌+◌, ◌*◌, length, refl};
 ghost use Rattle.std.proofs.Common.{rules, inl, inr, arith};
 ghost use Rattle.iso_model.specs.declared.Kind.{Kind};
+ghost use Rattle.split_laws.proofs.RingsOfEdges.{grid_rings};
 ghost use Rattle.split_laws.proofs.SplitTheorems.{across_leads_back, one_across, own_corners, flat_sides, grid_midpoints, joined, turns_kept, grid_shares, grid_neighbour, grid_boundary};
 ghost use Rattle.std.specs.Prelude.{◌≡◌, slice_index, nat_lt, if◌then◌else◌};
 ghost use Rattle.iso_model.specs.Cells.{corner_count, facet_count};
@@ -36,6 +37,8 @@ impl Split<2> for CubeCell<2> {
     ghost turns_kept = { turns_kept Kind.Cube 2 (inl refl) (Prim.search rules) };
 
     ghost shares = { grid_shares Kind.Cube 2 (inl refl) (Prim.search rules) };
+
+    ghost rings = { grid_rings Kind.Cube 2 };
 
     ghost stands = { grid_neighbour Kind.Cube 2 (inl refl) (Prim.search rules) };
 
@@ -79,6 +82,8 @@ impl Split<3> for CubeCell<3> {
 
     ghost shares = { grid_shares Kind.Cube 3 (inr (inl refl)) (Prim.search rules) };
 
+    ghost rings = { grid_rings Kind.Cube 3 };
+
     ghost stands = { grid_neighbour Kind.Cube 3 (inr (inl refl)) (Prim.search rules) };
 
     ghost leaves = { grid_boundary Kind.Cube 3 (inr (inl refl)) (Prim.search rules) };
@@ -120,6 +125,8 @@ impl Split<4> for CubeCell<4> {
     ghost turns_kept = { turns_kept Kind.Cube 4 (inr (inr refl)) (Prim.search rules) };
 
     ghost shares = { grid_shares Kind.Cube 4 (inr (inr refl)) (Prim.search rules) };
+
+    ghost rings = { grid_rings Kind.Cube 4 };
 
     ghost stands = { grid_neighbour Kind.Cube 4 (inr (inr refl)) (Prim.search rules) };
 

@@ -15,7 +15,7 @@ mod simplices;
 mod split;
 
 pub use complex::{Complex, edge_between, placed};
-pub use rings::{Place, Ring};
+pub use rings::Ring;
 pub use split::{Edge, Split};
 
 #[cfg(test)]

@@ -1,6 +1,7 @@
 ghost use Rattle.std.specs.Prelude.{ℕ, ◌<◌, ◌≤◌, ◌+◌, ◌*◌, length, refl};
 ghost use Rattle.std.proofs.Common.{rules, inl, inr, arith};
 ghost use Rattle.iso_model.specs.declared.Kind.{Kind};
+ghost use Rattle.split_laws.proofs.RingsOfEdges.{grid_rings};
 ghost use Rattle.split_laws.proofs.SplitTheorems.{across_leads_back, one_across, own_corners, flat_sides, grid_midpoints, joined, turns_kept, grid_shares, grid_neighbour, grid_boundary};
 
 use crate::Split;
@@ -30,6 +31,8 @@ impl Split<3> for PyramidCell {
     ghost turns_kept = { turns_kept Kind.Pyramid 3 (inr (inl refl)) refl };
 
     ghost shares = { grid_shares Kind.Pyramid 3 (inr (inl refl)) refl };
+
+    ghost rings = { grid_rings Kind.Pyramid 3 };
 
     ghost stands = { grid_neighbour Kind.Pyramid 3 (inr (inl refl)) refl };
 

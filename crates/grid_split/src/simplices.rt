@@ -1,6 +1,7 @@
 ghost use Rattle.std.specs.Prelude.{ℕ, ◌<◌, ◌≤◌, ◌+◌, ◌*◌, length, refl};
 ghost use Rattle.std.proofs.Common.{rules, inl, inr, arith};
 ghost use Rattle.iso_model.specs.declared.Kind.{Kind};
+ghost use Rattle.split_laws.proofs.RingsOfEdges.{grid_rings};
 ghost use Rattle.split_laws.proofs.SplitTheorems.{across_leads_back, one_across, own_corners, flat_sides, grid_midpoints, joined, turns_kept, grid_shares, grid_neighbour, grid_boundary};
 ghost use Rattle.std.specs.Prelude.{◌≡◌, slice_index, nat_lt, if◌then◌else◌};
 ghost use Rattle.iso_model.specs.Cells.{corner_count, facet_count};
@@ -37,6 +38,8 @@ impl Split<2> for SimplexCell<2> {
     ghost turns_kept = { turns_kept Kind.Simplex 2 (inl refl) (Prim.search rules) };
 
     ghost shares = { grid_shares Kind.Simplex 2 (inl refl) (Prim.search rules) };
+
+    ghost rings = { grid_rings Kind.Simplex 2 };
 
     ghost stands = { grid_neighbour Kind.Simplex 2 (inl refl) (Prim.search rules) };
 
@@ -80,6 +83,8 @@ impl Split<3> for SimplexCell<3> {
 
     ghost shares = { grid_shares Kind.Simplex 3 (inr (inl refl)) (Prim.search rules) };
 
+    ghost rings = { grid_rings Kind.Simplex 3 };
+
     ghost stands = { grid_neighbour Kind.Simplex 3 (inr (inl refl)) (Prim.search rules) };
 
     ghost leaves = { grid_boundary Kind.Simplex 3 (inr (inl refl)) (Prim.search rules) };
@@ -121,6 +126,8 @@ impl Split<4> for SimplexCell<4> {
     ghost turns_kept = { turns_kept Kind.Simplex 4 (inr (inr refl)) (Prim.search rules) };
 
     ghost shares = { grid_shares Kind.Simplex 4 (inr (inr refl)) (Prim.search rules) };
+
+    ghost rings = { grid_rings Kind.Simplex 4 };
 
     ghost stands = { grid_neighbour Kind.Simplex 4 (inr (inr refl)) (Prim.search rules) };
 

@@ -2,7 +2,7 @@ ghost use Rattle.std.specs.Prelude.{◌≡◌, ℕ, ◌<◌, ◌≤◌, List, le
 ghost use Rattle.iso_model.specs.Splits.{cells_per_cube, corner_offset, is_odd_rank};
 ghost use Rattle.iso_model.specs.Neighbours.{shift_across, IsAcross, HaveOwnMidpoints};
 ghost use Rattle.iso_model.specs.SplitLaws.{HasOwnCorners, HasFlatSides};
-ghost use Rattle.grid_split.specs.Laws.{LeadsBack, HasOneAcross, JoinsFacets, KeepsAllTurns, SharesFacets, HasNeighboursAcross, LeavesAtBoundary};
+ghost use Rattle.grid_split.specs.Laws.{LeadsBack, HasOneAcross, JoinsFacets, KeepsAllTurns, SharesFacets, HasRings, HasNeighboursAcross, LeavesAtBoundary};
 
 use cell_lattice::Cell;
 
@@ -60,6 +60,8 @@ pub trait Split<const D: usize>: Cell<D> {
     ghost turns_kept: { KeepsAllTurns Self.KIND D };
 
     ghost shares: { SharesFacets Self.KIND D };
+
+    ghost rings: { HasRings Self.KIND D };
 
     ghost stands: { HasNeighboursAcross Self.KIND D };
 

@@ -4,3 +4,4 @@ pub mod CornersFound
 pub mod ColumnsFound
 pub mod RingsFound
 pub mod WaysFound
+pub mod RoundsFound

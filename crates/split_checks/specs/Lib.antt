@@ -5,3 +5,4 @@ pub mod CornerTests
 pub mod ColumnTests
 pub mod RingTests
 pub mod WayTests
+pub mod CellsRound

@@ -4,3 +4,7 @@
 //! `WayTests` that of two cells at an edge the one is reached from the other without leaving the cubes between them; the files
 //! of `proofs` run them.
 #![tactic(auto)]
+
+mod rounds;
+
+pub use rounds::{CENTRES, CUBES, PYRAMIDS, Place, SIMPLICES};

@@ -10,3 +10,6 @@ pub mod Turning
 pub mod Turns
 pub mod Passed
 pub mod SplitTheorems
+pub mod PlacesThere
+pub mod RoundsHold
+pub mod RingsOfEdges

@@ -1,7 +1,7 @@
 use Rattle.std.proofs.Common.{◌≡◌, ℕ, ◌<◌, length, subst, sym, arith}
 use Rattle.iso_model.specs.Cells.{edge_count}
 use Rattle.iso_model.specs.Splits as Splits
-use Rattle.grid_split.specs.Rounds.{as_edge}
+use Rattle.grid_split.specs.EdgeEnds.{as_edge}
 use Rattle.grid_split.proofs.ring_tests.ring_of.Goals as goal
 
 pub ring-requires : goal.ring-requires

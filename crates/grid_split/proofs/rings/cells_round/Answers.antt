@@ -3,10 +3,10 @@ use Rattle.std.proofs.lemmas.Bool.Decides.{nat_tests}
 use Rattle.std.proofs.Common.{arith, inl, inr}
 use Rattle.iso_model.specs.declared.Kind.{Kind}
 use Rattle.iso_model.specs.declared.Kind.TheVariants.{Cube, Simplex, Pyramid}
-use Rattle.grid_split.specs.declared.rings.Place.{Place}
-use Rattle.grid_split.specs.Rounds.{IsWay, AreRound, number_of_way}
-use Rattle.grid_split.proofs.RoundsFound.{places_of, cube_table, simplex_table, pyramid_table, centre_table, pyramid_places}
-use Rattle.grid_split.proofs.RoundsHold.{rounds, eight_cases, way_at}
+use Rattle.split_checks.specs.declared.rounds.Place.{Place}
+use Rattle.split_checks.specs.CellsRound.{IsWay, AreRound, number_of_way}
+use Rattle.split_checks.proofs.RoundsFound.{places_of, cube_table, simplex_table, pyramid_table, centre_table, pyramid_places}
+use Rattle.split_laws.proofs.RoundsHold.{rounds, eight_cases, way_at}
 use Rattle.grid_split.proofs.rings.cells_round.Goals as goal
 
 -- the list of a kind

@@ -9,9 +9,11 @@ use Rattle.iso_model.specs.declared.Kind.{Kind}
 use Rattle.iso_model.specs.Splits.{cells_per_cube}
 use Rattle.grid_split.specs.Strides.{IsComplex}
 use Rattle.lists.proofs.Contained.{Contains-at}
-use Rattle.grid_split.specs.declared.rings.Place.{Place}
-use Rattle.grid_split.specs.Rounds.{AreAt, IsArc, StandsAt, IsMissing, arc_of, sides_at, stands, before_gap, after_gap}
-use Rattle.grid_split.proofs.ArcSteps.{Progress, step_before, step_after, step_gap, there_in, missing_out, at_join}
+use Rattle.split_checks.specs.declared.rounds.Place.{Place}
+use Rattle.split_checks.specs.CellsRound.{arc_of, stands, before_gap, after_gap}
+use Rattle.split_laws.specs.RoundEdges.{AreAt, IsArc, StandsAt, IsMissing, sides_at}
+use Rattle.split_laws.proofs.PlacesThere.{missing_out}
+use Rattle.grid_split.proofs.ArcSteps.{Progress, step_before, step_after, step_gap, there_in, at_join}
 use Rattle.grid_split.proofs.complex.Complex+C+3.arc.Goals as goal
 use Rattle.grid_split.proofs.complex.Complex+C+3.arc.Goals.{in-Some, in-Some-2, in-None}
 

@@ -1,8 +1,9 @@
 use Rattle.std.proofs.Common.{◌≡◌, ℕ, ◌+◌, ◌≤◌, length}
 use Rattle.std.specs.Prelude.{take}
 use Rattle.std.specs.List.{list_all}
-use Rattle.grid_split.specs.declared.rings.Place.{Place}
-use Rattle.grid_split.specs.Rounds.{AreAt, before_gap, after_gap, stands, sides_at}
+use Rattle.split_checks.specs.declared.rounds.Place.{Place}
+use Rattle.split_checks.specs.CellsRound.{before_gap, after_gap, stands}
+use Rattle.split_laws.specs.RoundEdges.{AreAt, sides_at}
 use Rattle.grid_split.proofs.complex.Complex+C+3.arc.Given as goal
 
 abbrev pub invariant-loop-place : goal.invariant-loop-place

@@ -2,9 +2,9 @@ use Rattle.std.proofs.Common.{◌≡◌, ℕ, ◌+◌, ◌-◌, ◌*◌, ◌<◌
 use Rattle.std.proofs.Math.Nat.{mul-le-mul_left}
 use Rattle.std.specs.Prelude.{slice_index}
 use Rattle.iso_model.specs.Splits.{cells_per_cube, cube_count}
-use Rattle.grid_split.specs.Rounds.{StandsAt}
+use Rattle.split_laws.specs.RoundEdges.{StandsAt}
 use Rattle.grid_split.specs.Strides.{IsComplex}
-use Rattle.grid_split.proofs.ArcSteps.{stands_from}
+use Rattle.split_laws.proofs.PlacesThere.{stands_from}
 use Rattle.grid_split.proofs.CubeNumbers.{few_in_all}
 use Rattle.grid_split.proofs.PlaceSums.{number_before, number_of, NumberOf, next_part}
 use Rattle.grid_split.proofs.complex.Complex+C+3.cell_at.Goals as goal

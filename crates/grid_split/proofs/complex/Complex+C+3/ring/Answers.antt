@@ -4,9 +4,11 @@ use Rattle.iso_model.specs.declared.Kind.{Kind}
 use Rattle.iso_model.specs.Splits.{Edge, cells_per_cube}
 use Rattle.iso_model.specs.Neighbours.{IsRing}
 use Rattle.grid_split.specs.Strides.{IsComplex}
-use Rattle.grid_split.specs.Rounds.{as_edge, IsEdge, IsMiddle, IsWay, AreRound, AreFit, IsArc}
+use Rattle.split_checks.specs.CellsRound.{IsWay, AreRound}
+use Rattle.split_laws.specs.RoundEdges.{IsEdge, IsMiddle, AreFit, IsArc}
+use Rattle.grid_split.specs.EdgeEnds.{as_edge}
 use Rattle.grid_split.proofs.CubeNumbers.{few_cubes}
-use Rattle.grid_split.proofs.RingsOfEdges.{is_way, back_small, within, ring_is, ends_bounded}
+use Rattle.split_laws.proofs.RingsOfEdges.{is_way, back_small, within, ring_is, ends_bounded}
 use Rattle.grid_split.proofs.complex.Complex+C+3.ring.Goals as goal
 
 pub middle-requires : goal.middle-requires

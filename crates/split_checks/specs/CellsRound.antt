@@ -2,26 +2,15 @@
 --
 -- An edge is told by the sum of its ends, in quarter-units: 4 times a cube, its middle cube, and the way of the edge, below 4 in each axis. The cubes
 -- of the cells that have it stand in each axis at the middle cube, or one back.
-use Rattle.std.specs.Prelude.{◌≡◌, ℕ, nat_le, ◌+◌, ◌-◌, ◌*◌, ◌/◌, ◌%◌, ◌<◌, ◌≤◌, ◌==◌, ◌⊎◌, Bool, true, ◌&&◌, ⊤, if◌then◌else◌, ℤ, pos, ◌+ℤ◌}
+use Rattle.std.specs.Prelude.{◌≡◌, ℕ, ◌+◌, ◌-◌, ◌*◌, ◌/◌, ◌%◌, ◌<◌, ◌≤◌, ◌==◌, Bool, true, ◌&&◌, ⊤, if◌then◌else◌, ℤ, pos, ◌+ℤ◌}
 use Rattle.std.specs.Prelude.{List, [], ◌∷◌, ◌++◌, map, filter, length, slice_index, slice_index_or, Contains}
-use Rattle.std.specs.List.{list_all}
-use Rattle.grid_split.specs.declared.rings.Place.{Place}
-use Rattle.grid_split.specs.declared.split.Edge.{Edge}
+use Rattle.split_checks.specs.declared.rounds.Place.{Place}
 use Rattle.iso_model.specs.declared.Kind.{Kind}
 use Rattle.iso_model.specs.Points.{point}
 use Rattle.iso_model.specs.Cells.{edge_count, edge_ends, edge_in_facet, facet_count}
-use Rattle.iso_model.specs.Splits as Splits
-use Rattle.iso_model.specs.Splits.{cells_per_cube, cell_count, cube_of, rank_of}
+use Rattle.iso_model.specs.Splits.{cells_per_cube}
 use Rattle.iso_model.specs.SplitLaws.{corner_sum}
-use Rattle.iso_model.specs.Neighbours.{HasEdge, IsAcross, shift_across}
-
--- the two ends of an edge
-abbrev pub as_edge : {D : ℕ} → Edge D → Splits.Edge
-as_edge e = record { low = e.low; high = e.high }
-
--- the edge is one of a cell of the grid
-abbrev pub IsEdge : Kind → List ℕ → Splits.Edge → Type 0
-IsEdge kind sizes e = (cell : ℕ) × (cell < cell_count kind sizes) × HasEdge kind sizes cell e
+use Rattle.iso_model.specs.Neighbours.{IsAcross, shift_across}
 
 -- ---- ways
 
@@ -44,13 +33,6 @@ IsBelow4 way = (i : ℕ) → i < 3 → slice_index way i < 4
 -- bit i is set where the high end of an edge of this way is further up axis i
 abbrev pub number_of_way : List ℕ → ℕ
 number_of_way way = slice_index way 0 / 2 + slice_index way 1 / 2 * 2 + slice_index way 2 / 2 * 4
-
--- the sums of ends are those of the middle cube and the way
-pub record IsMiddle (low high cube way : List ℕ) : Type 0 where
-  pub cubes : length cube ≡ 3
-  pub ways : length way ≡ 3
-  pub sums : (i : ℕ) → i < 3 → slice_index low i + slice_index high i ≡ 4 * slice_index cube i + slice_index way i
-  pub small : IsBelow4 way
 
 -- ---- places
 
@@ -120,53 +102,3 @@ pub record AreRound (kind : Kind) (way : List ℕ) (places : List Place) : Type 
   pub round : (d : Place) → IsNextTo kind way (slice_index_or places (length places - 1) d) (slice_index_or places 0 d)
   pub both : (i : ℕ) → i < 3 → slice_index way i ≡ 0
       → ((p : Place) × Contains places p × (slice_index p.back i ≡ 0)) × ((p : Place) × Contains places p × (slice_index p.back i ≡ 1))
-
--- ---- in a grid
-
--- the cell of the grid at this place, from the middle cube
-pub record StandsAt (kind : Kind) (sizes cube : List ℕ) (p : Place) (cell : ℕ) : Type 0 where
-  pub is_cell : cell < cell_count kind sizes
-  pub rank : rank_of kind sizes cell ≡ p.rank
-  pub cubes : (i : ℕ) → i < 3 → slice_index (cube_of kind sizes cell) i + slice_index p.back i ≡ slice_index cube i
-
--- along an axis with this many samples, no cube stands this far back
-abbrev pub IsMissingIn : ℕ → ℕ → ℕ → Type 0
-IsMissingIn size x back = (x < back) ⊎ (size + back < x + 2)
-
--- in some axis no cube of the grid stands where the place says
-abbrev pub IsMissing : List ℕ → List ℕ → Place → Type 0
-IsMissing sizes cube p = (i : ℕ) × (i < 3) × IsMissingIn (slice_index sizes i) (slice_index cube i) (slice_index p.back i)
-
--- whether a cube stands at x, and one back, along an axis with this many samples
-abbrev pub side_at : ℕ → ℕ → Bool × Bool
-side_at size x = (nat_le (x + 2) size, nat_le 1 x)
-
--- the sides of the grid at the middle cube
-abbrev pub sides_at : List ℕ → List ℕ → List (Bool × Bool)
-sides_at sizes cube =
-    side_at (slice_index sizes 0) (slice_index cube 0) ∷ side_at (slice_index sizes 1) (slice_index cube 1)
-    ∷ side_at (slice_index sizes 2) (slice_index cube 2) ∷ []
-
--- in each axis the cube is within the samples
-abbrev pub IsInside : List ℕ → List ℕ → Type 0
-IsInside sizes cube = (i : ℕ) → i < 3 → slice_index cube i < slice_index sizes i
-
--- in three dimensions, at most eight places, whose cubes stand at the middle cube or one back in each axis; the middle cube is within the samples
-pub record AreFit (kind : Kind) (sizes cube : List ℕ) (places : List Place) : Type 0 where
-  pub axes : length sizes ≡ 3
-  pub few : length places ≤ 8
-  pub ranks : (p : Place) → Contains places p → p.rank < cells_per_cube kind 3
-  pub backs : (p : Place) → Contains places p → (length p.back ≡ 3) × ((i : ℕ) → i < 3 → slice_index p.back i ≤ 1)
-  pub inside : IsInside sizes cube
-
--- cells and places, one by one
-abbrev pub AreAt : Kind → List ℕ → List ℕ → List Place → List ℕ → Type 0
-AreAt kind sizes cube [] [] = ⊤
-AreAt kind sizes cube [] (c ∷ cells) = ⊥
-AreAt kind sizes cube (p ∷ places) [] = ⊥
-AreAt kind sizes cube (p ∷ places) (c ∷ cells) = StandsAt kind sizes cube p c × AreAt kind sizes cube places cells
-
--- the cells at the places whose cubes are there, from the first gap on once round; closed where there is no gap
-pub record IsArc (kind : Kind) (sizes cube : List ℕ) (places : List Place) (cells : List ℕ) (closed : Bool) : Type 0 where
-  pub at : AreAt kind sizes cube (arc_of (sides_at sizes cube) places) cells
-  pub whole : closed ≡ list_all (λ (p : Place). stands (sides_at sizes cube) p.back) places

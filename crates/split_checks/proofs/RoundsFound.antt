@@ -10,9 +10,9 @@ use Rattle.iso_model.specs.Cells.{edge_count, edge_in_facet, facet_count}
 use Rattle.iso_model.specs.Splits.{cells_per_cube}
 use Rattle.iso_model.specs.Neighbours.{facet_offsets}
 use Rattle.split_checks.specs.AcrossTests.{next_across, next_at, move_across}
-use Rattle.grid_split.specs.declared.rings.Place.{Place}
-use Rattle.grid_split.specs.declared.rings.TheConstants.{CUBES, SIMPLICES, PYRAMIDS, CENTRES}
-use Rattle.grid_split.specs.Rounds.{number_of_way, sum_of, way_of, arc_of}
+use Rattle.split_checks.specs.declared.rounds.Place.{Place}
+use Rattle.split_checks.specs.declared.rounds.TheConstants.{CUBES, SIMPLICES, PYRAMIDS, CENTRES}
+use Rattle.split_checks.specs.CellsRound.{number_of_way, sum_of, way_of, arc_of}
 
 -- ---- the lists, as the code has them
 

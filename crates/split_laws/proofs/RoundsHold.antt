@@ -25,11 +25,11 @@ use Rattle.split_laws.proofs.Coordinates.{coordinate, length-point, lists_same}
 use Rattle.split_laws.proofs.Midpoints.{plus_at}
 use Rattle.split_laws.proofs.Offsets.{equal_lists}
 use Rattle.split_laws.proofs.SplitTheorems.{found_across}
-use Rattle.grid_split.specs.declared.rings.Place.{Place}
-use Rattle.grid_split.specs.Rounds.{sum_of, way_of, IsBelow4, IsWay, HasWay, IsNextTo, AreInTurn, AreOwn, stands, before_gap, after_gap, arc_of, AreRound}
-use Rattle.grid_split.proofs.RoundsFound.{places_of, ways, same_place, place_of, is_listed, all_listed, has_way, has_some, goes_over, is_next, in_turn}
-use Rattle.grid_split.proofs.RoundsFound.{none_twice, last_to_first, on_both_sides, of_both, of_each_side, is_arc, are_arcs, is_round, all_round}
-use Rattle.grid_split.proofs.RoundsFound.{cubes_listed, simplices_listed, pyramids_listed, cubes_round, simplices_round, pyramids_round}
+use Rattle.split_checks.specs.declared.rounds.Place.{Place}
+use Rattle.split_checks.specs.CellsRound.{sum_of, way_of, IsBelow4, IsWay, HasWay, IsNextTo, AreInTurn, AreOwn, stands, before_gap, after_gap, arc_of, AreRound}
+use Rattle.split_checks.proofs.RoundsFound.{places_of, ways, same_place, place_of, is_listed, all_listed, has_way, has_some, goes_over, is_next, in_turn}
+use Rattle.split_checks.proofs.RoundsFound.{none_twice, last_to_first, on_both_sides, of_both, of_each_side, is_arc, are_arcs, is_round, all_round}
+use Rattle.split_checks.proofs.RoundsFound.{cubes_listed, simplices_listed, pyramids_listed, cubes_round, simplices_round, pyramids_round}
 
 -- ---- places
 

@@ -26,11 +26,12 @@ use Rattle.split_laws.proofs.Placement.{below, coordinate_of, small_offset, long
 use Rattle.split_laws.proofs.Passed.{fits, ends_are_corners}
 use Rattle.split_laws.proofs.Sharing.{EndsAreCorners, ends_of_edge}
 use Rattle.split_laws.proofs.SplitTheorems.{neighbour_is, own_midpoints}
-use Rattle.grid_split.specs.declared.rings.Place.{Place}
-use Rattle.grid_split.specs.Rounds.{sum_of, way_of, IsEdge, IsMiddle, IsWay, HasWay, IsNextTo, AreInTurn, AreOwn, AreRound, StandsAt}
-use Rattle.grid_split.specs.Rounds.{stands, before_gap, after_gap, arc_of, side_at, sides_at, AreAt, IsInside}
-use Rattle.grid_split.proofs.ArcSteps.{stands_in, cube_there, all_there, out_false, at_length, place_in, cell_in, at_place}
-use Rattle.grid_split.proofs.RoundsHold.{same_parts, arc_in, in_arc, three_axes, three_is}
+use Rattle.split_checks.specs.declared.rounds.Place.{Place}
+use Rattle.split_checks.specs.CellsRound.{sum_of, way_of, IsBelow4, IsWay, HasWay, IsNextTo, AreInTurn, AreOwn, AreRound, stands, before_gap, after_gap, arc_of}
+use Rattle.split_laws.specs.RoundEdges.{IsEdge, HasRing, IsMiddle, StandsAt, side_at, sides_at, AreAt, IsInside}
+use Rattle.split_checks.proofs.RoundsFound.{places_of}
+use Rattle.split_laws.proofs.PlacesThere.{stands_in, cube_there, all_there, out_false, at_length, place_in, cell_in, at_place, IsThere, cells_there}
+use Rattle.split_laws.proofs.RoundsHold.{same_parts, arc_in, in_arc, three_axes, three_is, rounds}
 
 module _ (kind : Kind) (sizes : List ℕ) (axes : length sizes ≡ 3) (e : Edge) (cube way : List ℕ)
     (middle : IsMiddle e.low e.high cube way) (c0 : ℕ) (h0 : c0 < cell_count kind sizes)
@@ -579,6 +580,54 @@ module _ (kind : Kind) (sizes : List ℕ) (axes : length sizes ≡ 3) (e : Edge)
       closes = λ h. closes_round cells (subst (λ (ps : List Place). AreAt kind sizes cube ps cells) (whole_arc h) all);
       ends = (to_border, from_border);
     }
+
+    -- the cells that stand there
+    pub arc_cells : (cells : List ℕ) × AreAt kind sizes cube (arc_of sides places) cells
+    arc_cells = cells_there kind sizes cube axes within (arc_of sides places) each
+      where
+        each : (p : Place) → In p (arc_of sides places) → IsThere kind sizes cube axes within p
+        each p i =
+            let r = arc_in sides places p i in
+            let listed = round.has p (Contains_from places p r.0) in
+            record { is_rank = listed.1.is_rank; long = listed.1.axes; small = back_small p listed.0 listed.1; there = r.1 }
+
+-- ---- each edge has a ring
+
+-- the middle cube of an edge, and its way
+abbrev middle_cube : Edge → List ℕ
+middle_cube e = point 3 (λ i. (slice_index e.low i + slice_index e.high i) / 4)
+
+abbrev own_way : Edge → List ℕ
+own_way e = point 3 (λ i. (slice_index e.low i + slice_index e.high i) % 4)
+
+middle_is : (e : Edge) → IsMiddle e.low e.high (middle_cube e) (own_way e)
+middle_is e = record {
+  cubes = length-point 3 (λ i. (slice_index e.low i + slice_index e.high i) / 4);
+  ways = length-point 3 (λ i. (slice_index e.low i + slice_index e.high i) % 4);
+  sums = λ i hi.
+      omega (
+        arith,
+        coordinate 3 (λ j. (slice_index e.low j + slice_index e.high j) / 4) i hi,
+        coordinate 3 (λ j. (slice_index e.low j + slice_index e.high j) % 4) i hi,
+      );
+  small = λ i hi. omega (arith, coordinate 3 (λ j. (slice_index e.low j + slice_index e.high j) % 4) i hi);
+}
+
+pub has_ring : (kind : Kind) (sizes : List ℕ) → length sizes ≡ 3 → (e : Edge) → IsEdge kind sizes e → HasRing kind sizes e
+has_ring kind sizes axes e is =
+    let cube = middle_cube e in
+    let way = own_way e in
+    let middle = middle_is e in
+    let round = rounds kind way (is_way kind sizes axes e cube way middle is.0 is.1 is.2) in
+    let cells = arc_cells kind sizes axes e cube way middle is.0 is.1 is.2 (places_of kind way) round in (
+      cells.0,
+      list_all (λ (p : Place). stands (sides_at sizes cube) p.back) (places_of kind way),
+      ring_is kind sizes axes e cube way middle is.0 is.1 is.2 (places_of kind way) round cells.0 cells.1,
+    )
+
+-- the same of a grid with as many axes as the kind has
+pub grid_rings : (kind : Kind) (d : ℕ) → d ≡ 3 → (sizes : List ℕ) → length sizes ≡ d → (e : Edge) → IsEdge kind sizes e → HasRing kind sizes e
+grid_rings kind d three sizes long = has_ring kind sizes (long ∙ three)
 
 -- the ends of an edge are below twice the greatest size
 pub ends_bounded : (kind : Kind) (sizes : List ℕ) → length sizes ≡ 3 → (most : ℕ) → ((i : ℕ) → i < length sizes → slice_index sizes i ≤ most)
