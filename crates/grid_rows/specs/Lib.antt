@@ -1,0 +1,3 @@
+pub mod MiddleAxes
+pub mod Planes
+pub mod RowNumbers
