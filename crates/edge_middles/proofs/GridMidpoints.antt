@@ -13,7 +13,7 @@ use Rattle.edge_middles.proofs.CubeMiddles.{edges_there}
 use Rattle.edge_middles.proofs.GridEdges.{edges_moved, long_cube, long_offset}
 use Rattle.edge_middles.proofs.MovedMiddles.{moves_edges}
 
-plus_moved : (x p q : List ℕ) → plus (moved 2 x p) (moved 2 x q) ≡ moved 4 x (plus p q)
+pub plus_moved : (x p q : List ℕ) → plus (moved 2 x p) (moved 2 x q) ≡ moved 4 x (plus p q)
 plus_moved [] p q = refl
 plus_moved (c ∷ x) [] q = refl
 plus_moved (c ∷ x) (a ∷ p) [] = refl

@@ -1,5 +1,6 @@
 pub mod CubeMiddles
 pub mod GridEdges
 pub mod GridMidpoints
+pub mod HeldPoints
 pub mod MiddlesFound
 pub mod MovedMiddles

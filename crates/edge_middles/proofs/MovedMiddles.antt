@@ -15,7 +15,7 @@ moved_map f step [] m = refl
 moved_map f step (c ∷ x) [] = refl
 moved_map f step (c ∷ x) (k ∷ m) = λ i. step c k i ∷ moved_map f step x m i
 
-joins_same : (x m : List ℕ) → length x ≡ length m → joins_samples (moved 4 x m) ≡ joins_samples m
+pub joins_same : (x m : List ℕ) → length x ≡ length m → joins_samples (moved 4 x m) ≡ joins_samples m
 joins_same [] [] e = refl
 joins_same [] (k ∷ m) e = absurd (omega (arith, e))
 joins_same (c ∷ x) [] e = absurd (omega (arith, e))

@@ -1,3 +1,4 @@
+pub mod HeldMiddles
 pub mod MiddleTests
 pub mod Middles
 pub mod MovedEdges
