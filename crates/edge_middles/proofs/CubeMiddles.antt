@@ -80,7 +80,7 @@ all_at_middles : (kind : Kind) (d : ℕ) → IsDimension d → HasDimension kind
 all_at_middles = of_each_cell (λ kind d. edges_at_middles kind d ≡ true) squares_at_middles cubes_at_middles hypercubes_at_middles triangles_at_middles
     tetrahedra_at_middles four_simplices_at_middles pyramids_at_middles
 
-edges_equal : (a b : Edge) → same_edge a b ≡ true → a ≡ b
+pub edges_equal : (a b : Edge) → same_edge a b ≡ true → a ≡ b
 edges_equal a b t =
     let low = lists_equal a.low b.low (and_left (same_list a.low b.low) (same_list a.high b.high) t) in
     let high = lists_equal a.high b.high (and_right (same_list a.low b.low) (same_list a.high b.high) t) in

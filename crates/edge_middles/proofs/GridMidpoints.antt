@@ -34,7 +34,7 @@ long_midpoint d p q e h = by_case (comes_first p q)
     by_case true = long_plus d p q e h
     by_case false = long_plus d q p h e
 
-rank_below : (n per cell : ℕ) → cell < n * per → cell % per < per
+pub rank_below : (n per cell : ℕ) → cell < n * per → cell % per < per
 rank_below n zero cell h = absurd (let none : n * 0 ≡ 0 = omega arith in omega (arith, h, none))
 rank_below n (suc per) cell h = mod-lt cell (omega arith)
 

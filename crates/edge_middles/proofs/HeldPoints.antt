@@ -82,7 +82,7 @@ back_long (c ∷ x) (k ∷ m) e = ap suc (back_long x m (omega (arith, e)))
 low_side : (c k : ℕ) (rest : Bool) → (nat_le (4 * c) k && nat_le k (4 * c + 4) && rest) ≡ true → 4 * c ≤ k
 low_side c k rest t = leb-true (4 * c) k (and_left (nat_le (4 * c) k) (nat_le k (4 * c + 4)) (and_left (nat_le (4 * c) k && nat_le k (4 * c + 4)) rest t))
 
-high_side : (c k : ℕ) (rest : Bool) → (nat_le (4 * c) k && nat_le k (4 * c + 4) && rest) ≡ true → k ≤ 4 * c + 4
+pub high_side : (c k : ℕ) (rest : Bool) → (nat_le (4 * c) k && nat_le k (4 * c + 4) && rest) ≡ true → k ≤ 4 * c + 4
 high_side c k rest t = leb-true k (4 * c + 4) (and_right (nat_le (4 * c) k) (nat_le k (4 * c + 4)) (and_left (nat_le (4 * c) k && nat_le k (4 * c + 4)) rest t))
 
 is_moved : (x m : List ℕ) → length x ≡ length m → holds x m ≡ true → m ≡ moved 4 x (back x m)

@@ -2,5 +2,9 @@ pub mod CubeMiddles
 pub mod GridEdges
 pub mod GridMidpoints
 pub mod HeldPoints
+pub mod ListedEdges
 pub mod MiddlesFound
 pub mod MovedMiddles
+pub mod OrderedPoints
+pub mod PlacesOfEdges
+pub mod PointsThere

@@ -1,3 +1,4 @@
+pub mod GridMiddles
 pub mod HeldMiddles
 pub mod MiddleTests
 pub mod Middles

@@ -1,19 +1,23 @@
 //! The edges of a grid by their midpoints: which of them there are.
 //!
 //! In `specs`: `Middles` says which midpoints the edges of a split can have; `MovedEdges` moves points and edges by
-//! whole cubes; `HeldMiddles` says which midpoints the cells of a cube of a grid have; `MiddleTests` has tests of one
-//! cube that compute.
+//! whole cubes; `HeldMiddles` says which midpoints the cells of a cube of a grid have; `GridMiddles` says at which
+//! midpoints a bipolar edge is there, and how many come before another; `MiddleTests` has tests of one cube that compute.
 //!
 //! In `proofs`: `MiddlesFound` computes them for each split; `CubeMiddles` says by it that the cells of one cube
 //! have an edge at each point of the cube that can be a midpoint, and at no other; `MovedMiddles` moves midpoints and
 //! edges by whole cubes, and `GridEdges` and `GridMidpoints` say that the edges of a grid are such; `HeldPoints` says
-//! that the midpoints of a cube of a grid are the points that it holds and that can be midpoints.
+//! that the midpoints of a cube of a grid are the points that it holds and that can be midpoints. `OrderedPoints` puts
+//! the points of a grid in order, `PointsThere` goes from a midpoint that is there to an edge of a kept cell and back,
+//! `ListedEdges` lists the bipolar edges by midpoints, and `PlacesOfEdges` finds their places in the list.
 #![tactic(auto)]
 
 ghost use Rattle.std.specs.Prelude.{ℕ, List, length};
 ghost use Rattle.iso_model.specs.declared.Kind.{Kind};
 ghost use Rattle.iso_model.specs.Cells.{HasDimension};
 ghost use Rattle.iso_model.specs.Dimensions.{IsDimension};
+ghost use Rattle.iso_model.specs.Values.{Volume};
+ghost use Rattle.edge_middles.specs.GridMiddles.{AreByMiddles, HasPlace};
 ghost use Rattle.edge_middles.specs.HeldMiddles.{HasHeldMiddles};
 ghost use Rattle.edge_middles.specs.Middles.{HasAllMiddles, HasEdgesAtMiddles};
 ghost use Rattle.edge_middles.specs.MovedEdges.{AreMovedEdges, HasGridEdgesAtMiddles, MovesEdges};
@@ -29,4 +33,12 @@ pub fn middles_law()
     ensures grids { (kind : Kind) (sizes : List ℕ) → HasDimension kind (length sizes) → AreMovedEdges kind sizes }
     ensures own { (kind : Kind) (sizes : List ℕ) → HasDimension kind (length sizes) → HasGridEdgesAtMiddles kind sizes }
     ensures held { (kind : Kind) (sizes : List ℕ) → HasDimension kind (length sizes) → HasHeldMiddles kind sizes }
+{}
+
+/// The bipolar edges of the kept cells of a grid are listed by midpoints: they are the edges at the midpoints that are
+/// there, in ascending order, last coordinate first. So the place of an edge in this list is the number of midpoints
+/// before its own.
+pub fn places_law()
+    ensures listed { (v : Volume) → HasDimension v.kind (length v.sizes) → IsDimension (length v.sizes) → AreByMiddles v }
+    ensures places { (v : Volume) → HasDimension v.kind (length v.sizes) → IsDimension (length v.sizes) → (middle : List ℕ) → HasPlace v middle }
 {}
