@@ -31,6 +31,9 @@ all_inside : (kind : Kind) (d : ℕ) → IsDimension d → HasDimension kind d �
 all_inside = of_each_cell (λ kind d. lie_inside kind d ≡ true) squares_inside cubes_inside hypercubes_inside triangles_inside
     tetrahedra_inside four_simplices_inside pyramids_inside
 
+pub same_itself : (xs : List ℕ) → same_list xs xs ≡ true
+same_itself xs = (bytes_eq-Decides xs xs).1 refl
+
 -- a point of the cube, by its coordinates
 in_cube : (d : ℕ) (p : List ℕ) → length p ≡ d → All (λ c. c ≤ 4) p → In p (cube_points d)
 in_cube zero [] e all = inl refl

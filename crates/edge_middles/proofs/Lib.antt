@@ -5,6 +5,8 @@ pub mod HeldPoints
 pub mod ListedEdges
 pub mod MiddlesFound
 pub mod MovedMiddles
+pub mod NextRows
 pub mod OrderedPoints
 pub mod PlacesOfEdges
 pub mod PointsThere
+pub mod RowCounts

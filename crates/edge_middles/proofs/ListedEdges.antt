@@ -14,7 +14,8 @@ use Rattle.iso_model.proofs.FaceLaws.{cells_below}
 use Rattle.iso_model.proofs.OrderLaws.{Earlier}
 use Rattle.lists.specs.Members.{AscendsBy, In}
 use Rattle.lists.specs.Orders.{numbers}
-use Rattle.lists.proofs.Contained.{Contains-filter, Contains-filtered, Contains-joined, Contains-mapped, Contains-passes, below_contained, contained_below, from_Contains-map}
+use Rattle.lists.proofs.Contained.{Contains-filter, Contains-filtered, Contains-joined, Contains-mapped, Contains-passes}
+use Rattle.lists.proofs.Contained.{below_contained, contained_below, from_Contains-map}
 use Rattle.lists.proofs.MemberLaws.{Contains_from, In_from, from_In-flat_map, from_In-map, from_filter}
 use Rattle.lists.proofs.Orderings.{ascends_by_steps}
 use Rattle.edge_middles.specs.Middles.{edge_at}
@@ -72,7 +73,8 @@ edge_from_middle v fits dim e c =
     let member : Contains (cell_edges v there.cell) (edge v.kind v.sizes there.cell there.number) =
     Contains-mapped (edge v.kind v.sizes there.cell) (numbers count) there.number (contained_below count there.number there.few) in
     let kept : Contains (kept_edges v) (edge v.kind v.sizes there.cell there.number) =
-    Contains-joined (cell_edges v) (cells v) there.cell (edge v.kind v.sizes there.cell there.number) (contains_cell v there.cell there.inside there.kept) member in
+    Contains-joined (cell_edges v) (cells v) there.cell (edge v.kind v.sizes there.cell there.number)
+    (contains_cell v there.cell there.inside there.kept) member in
     let same : edge v.kind v.sizes there.cell there.number ≡ e = sym there.same ∙ from.2 in
     Contains-filtered (is_bipolar v) (kept_edges v) e (ap (is_bipolar v) (sym from.2) ∙ s.bipolar) (subst (Contains (kept_edges v)) same kept)
 

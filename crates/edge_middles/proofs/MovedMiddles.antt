@@ -1,6 +1,6 @@
 -- Midpoints and edges that are moved by whole cubes: the edge of a moved midpoint is the moved edge of the midpoint.
 use Rattle.std.proofs.Common.{ap, arith, refl, sym, ◌∙◌}
-use Rattle.std.specs.Prelude.{Bool, List, [], ◌∷◌, false, true, length, map, nat_lt, suc, ℕ, ◌%◌, ◌&&◌, ◌||◌, ◌*◌, ◌+◌, ◌/◌, ◌==◌, ◌≡◌, if◌then◌else◌}
+use Rattle.std.specs.Prelude.{Bool, List, [], ◌∷◌, false, true, length, map, nat_lt, ℕ, ◌%◌, ◌&&◌, ◌||◌, ◌*◌, ◌+◌, ◌/◌, ◌==◌, ◌≡◌, if◌then◌else◌}
 use Rattle.iso_model.specs.Points.{comes_first}
 use Rattle.iso_model.specs.Splits.{edge_of_ends}
 use Rattle.lists.specs.Orders.{same_list}

@@ -23,7 +23,7 @@ use Rattle.edge_middles.proofs.HeldPoints.{has_held, high_side}
 
 -- ---- a point that a cube of the grid holds is one of the grid's
 
-in_points : (sizes : List ℕ) (cube : ℕ) (m : List ℕ) → cube < cube_count sizes → length m ≡ length sizes → holds (cube_at sizes cube) m ≡ true
+pub in_points : (sizes : List ℕ) (cube : ℕ) (m : List ℕ) → cube < cube_count sizes → length m ≡ length sizes → holds (cube_at sizes cube) m ≡ true
     → In m (quarter_points sizes)
 in_points [] cube [] few long held = inl refl
 in_points [] cube (k ∷ m) few long held = absurd (omega (arith, long))

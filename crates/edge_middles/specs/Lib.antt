@@ -3,3 +3,4 @@ pub mod HeldMiddles
 pub mod MiddleTests
 pub mod Middles
 pub mod MovedEdges
+pub mod RowCounts

@@ -2,14 +2,16 @@
 //!
 //! In `specs`: `Middles` says which midpoints the edges of a split can have; `MovedEdges` moves points and edges by
 //! whole cubes; `HeldMiddles` says which midpoints the cells of a cube of a grid have; `GridMiddles` says at which
-//! midpoints a bipolar edge is there, and how many come before another; `MiddleTests` has tests of one cube that compute.
+//! midpoints a bipolar edge is there, and how many come before another; `RowCounts` says how this number grows along a
+//! row of midpoints and from a row to the next; `MiddleTests` has tests of one cube that compute.
 //!
 //! In `proofs`: `MiddlesFound` computes them for each split; `CubeMiddles` says by it that the cells of one cube
 //! have an edge at each point of the cube that can be a midpoint, and at no other; `MovedMiddles` moves midpoints and
 //! edges by whole cubes, and `GridEdges` and `GridMidpoints` say that the edges of a grid are such; `HeldPoints` says
 //! that the midpoints of a cube of a grid are the points that it holds and that can be midpoints. `OrderedPoints` puts
 //! the points of a grid in order, `PointsThere` goes from a midpoint that is there to an edge of a kept cell and back,
-//! `ListedEdges` lists the bipolar edges by midpoints, and `PlacesOfEdges` finds their places in the list.
+//! `ListedEdges` lists the bipolar edges by midpoints, and `PlacesOfEdges` finds their places in the list; `RowCounts`
+//! and `NextRows` count the edges along a row and from a row to the next.
 #![tactic(auto)]
 
 ghost use Rattle.std.specs.Prelude.{ℕ, List, length};
@@ -19,13 +21,15 @@ ghost use Rattle.iso_model.specs.Dimensions.{IsDimension};
 ghost use Rattle.iso_model.specs.Values.{Volume};
 ghost use Rattle.edge_middles.specs.GridMiddles.{AreByMiddles, HasPlace};
 ghost use Rattle.edge_middles.specs.HeldMiddles.{HasHeldMiddles};
+ghost use Rattle.edge_middles.specs.RowCounts.{CountsCentres, CountsFirst, CountsCentre, CountsNone};
+ghost use Rattle.edge_middles.specs.RowCounts.{CountsPoints, CountsRows, CountsSame, CountsSamples};
 ghost use Rattle.edge_middles.specs.Middles.{HasAllMiddles, HasEdgesAtMiddles};
 ghost use Rattle.edge_middles.specs.MovedEdges.{AreMovedEdges, HasGridEdgesAtMiddles, MovesEdges};
 
 /// The cells of a cube have an edge at each point of the cube that can be the midpoint of one, and at no other, in each
 /// split. Each edge is the one that its midpoint says, and where a midpoint is moved by whole cubes, so is its edge;
-/// the edges of a grid's cells are those of one cube, moved, and so each is the one that its midpoint says. The cells of
-/// a cube of a grid have an edge at each point that the cube holds and that can be a midpoint, and at no other.
+/// the edges of a grid's cells are those of one cube, moved, and so each is the one that its midpoint says. The cells
+/// of a cube of a grid have an edge at each point that the cube holds and that can be a midpoint, and at no other.
 pub fn middles_law()
     ensures middles { (kind : Kind) (d : ℕ) → IsDimension d → HasDimension kind d → HasAllMiddles kind d }
     ensures edges { (kind : Kind) (d : ℕ) → IsDimension d → HasDimension kind d → HasEdgesAtMiddles kind d }
@@ -39,6 +43,19 @@ pub fn middles_law()
 /// there, in ascending order, last coordinate first. So the place of an edge in this list is the number of midpoints
 /// before its own.
 pub fn places_law()
-    ensures listed { (v : Volume) → HasDimension v.kind (length v.sizes) → IsDimension (length v.sizes) → AreByMiddles v }
-    ensures places { (v : Volume) → HasDimension v.kind (length v.sizes) → IsDimension (length v.sizes) → (middle : List ℕ) → HasPlace v middle }
+    ensures listed { (v : Volume) → HasDimension v.kind (length v.sizes) → AreByMiddles v }
+    ensures places { (v : Volume) → HasDimension v.kind (length v.sizes) → (middle : List ℕ) → HasPlace v middle }
+{}
+
+/// Along a row of midpoints the number of edges before a point grows by those that are there; no edge stands between
+/// the end of a row and the row after it, and none before the first point.
+pub fn counts_law()
+    ensures points { (v : Volume) (rest : List ℕ) → CountsPoints v rest }
+    ensures samples { (v : Volume) (rest : List ℕ) → HasDimension v.kind (length v.sizes) → CountsSamples v rest }
+    ensures first { (v : Volume) (rest : List ℕ) → HasDimension v.kind (length v.sizes) → CountsFirst v rest }
+    ensures centres { (v : Volume) (rest : List ℕ) → HasDimension v.kind (length v.sizes) → CountsCentres v rest }
+    ensures first_centre { (v : Volume) (rest : List ℕ) → HasDimension v.kind (length v.sizes) → CountsCentre v rest }
+    ensures rows { (v : Volume) (rest : List ℕ) → HasDimension v.kind (length v.sizes) → CountsRows v rest }
+    ensures same { (v : Volume) (p q : List ℕ) → CountsSame v p q }
+    ensures none { (v : Volume) (n : ℕ) → CountsNone v n }
 {}
