@@ -3,6 +3,7 @@ pub mod GridEdges
 pub mod GridMidpoints
 pub mod HeldPoints
 pub mod ListedEdges
+pub mod MeshMiddles
 pub mod MiddlesFound
 pub mod MovedMiddles
 pub mod NextRows

@@ -53,7 +53,7 @@ own_there v fits dim m c =
 
 -- ---- the list
 
-kept_cell : (v : Volume) (cell : ℕ) → Contains (cells v) cell → is_kept v cell ≡ true
+pub kept_cell : (v : Volume) (cell : ℕ) → Contains (cells v) cell → is_kept v cell ≡ true
 unfolding cells
 kept_cell v cell c = Contains-passes (is_kept v) (numbers (cell_count v.kind v.sizes)) cell c
 

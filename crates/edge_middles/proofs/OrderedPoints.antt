@@ -30,7 +30,7 @@ append_ascends {X} R (x ∷ xs) ys a b before = (
 )
 
 -- lists one after another ascend where each does, and where each member of an earlier one stands before those of a later one
-flat_map_ascends : {X Y : Type 0} (R : X → X → Type 0) (S : Y → Y → Type 0) (f : X → List Y) (xs : List X) → AscendsBy R xs
+pub flat_map_ascends : {X Y : Type 0} (R : X → X → Type 0) (S : Y → Y → Type 0) (f : X → List Y) (xs : List X) → AscendsBy R xs
     → ((x : X) → AscendsBy S (f x)) → ((x y : X) (a b : Y) → R x y → Contains (f x) a → Contains (f y) b → S a b) → AscendsBy S (flat_map f xs)
 flat_map_ascends R S f [] a each before = tt
 flat_map_ascends R S f (x ∷ xs) a each before =

@@ -112,7 +112,7 @@ pub record CellThere (v : Volume) (m : List ℕ) : Type 0 where
   pub same : edge_at m ≡ edge v.kind v.sizes cell number
   pub own : midpoint (edge_at m) ≡ m
 
-cell_inside : (cubes per cube rank : ℕ) → cube < cubes → rank < per → cube * per + rank < cubes * per
+pub cell_inside : (cubes per cube rank : ℕ) → cube < cubes → rank < per → cube * per + rank < cubes * per
 cell_inside cubes per cube rank h k =
     omega (arith, next_below rank per cube cubes k h, mul_comm per cube, mul_comm per cubes)
 
@@ -144,6 +144,20 @@ has_cell v fits dim m long s =
 
 -- ---- and from an edge of a kept cell to its midpoint
 
+pub cube_inside : (cubes per cell : ℕ) → cell < cubes * per → cell / per < cubes
+cube_inside cubes zero cell h = absurd (let none : cubes * zero ≡ 0 = omega arith in omega (arith, h, none))
+cube_inside cubes (suc per) cell h = (div-lt_iff_lt-mul (omega arith)).1 h
+
+-- a cell is one of its cube
+pub cell_of_cube : (kind : Kind) (sizes : List ℕ) (cell : ℕ) → cell < cell_count kind sizes
+    → In cell (cells_in kind sizes (cell / cells_per_cube kind (length sizes)))
+cell_of_cube kind sizes cell inside =
+    let per : ℕ = cells_per_cube kind (length sizes) in
+    let cube : ℕ = cell / per in
+    let rank : cell % per < per = rank_below (cube_count sizes) per cell inside in
+    let whole : cell ≡ cube * per + cell % per = sym (div-add-mod' cell per) in
+    subst (λ n. In n (cells_in kind sizes cube)) (sym whole) (In-map (λ r. cube * per + r) (numbers per) (cell % per) (In-numbers per (cell % per) rank))
+
 pub held_by_cube : (kind : Kind) (sizes : List ℕ) → HasDimension kind (length sizes) → IsDimension (length sizes) → (cell e : ℕ)
     → cell < cell_count kind sizes → e < edge_count kind (length sizes)
     → IsHeldMiddle kind sizes (cell / cells_per_cube kind (length sizes)) (midpoint (edge kind sizes cell e))
@@ -153,10 +167,7 @@ held_by_cube kind sizes fits dim cell e inside few =
     let cube : ℕ = cell / per in
     let count : ℕ = edge_count kind d in
     let m : List ℕ = midpoint (edge kind sizes cell e) in
-    let rank : cell % per < per = rank_below (cube_count sizes) per cell inside in
-    let whole : cell ≡ cube * per + cell % per = sym (div-add-mod' cell per) in
-    let there : In cell (cells_in kind sizes cube) =
-    subst (λ n. In n (cells_in kind sizes cube)) (sym whole) (In-map (λ r. cube * per + r) (numbers per) (cell % per) (In-numbers per (cell % per) rank)) in
+    let there : In cell (cells_in kind sizes cube) = cell_of_cube kind sizes cell inside in
     (has_held kind sizes fits dim cube m).0
     (In-flat_map (cell_middles kind sizes) (cells_in kind sizes cube) cell m there
     (In-map (λ n. midpoint (edge kind sizes cell n)) (numbers count) e (In-numbers count e few)))
@@ -175,7 +186,3 @@ stands_at v fits dim cell e inside kept few bipolar =
       middle = h.2;
       bipolar = ap (is_bipolar v) (own_middles v.kind v.sizes fits dim cell e inside few) ∙ bipolar;
     }
-  where
-    cube_inside : (cubes per cell : ℕ) → cell < cubes * per → cell / per < cubes
-    cube_inside cubes zero cell h = absurd (let none : cubes * zero ≡ 0 = omega arith in omega (arith, h, none))
-    cube_inside cubes (suc per) cell h = (div-lt_iff_lt-mul (omega arith)).1 h

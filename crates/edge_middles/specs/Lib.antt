@@ -1,5 +1,6 @@
 pub mod GridMiddles
 pub mod HeldMiddles
+pub mod MeshMiddles
 pub mod MiddleTests
 pub mod Middles
 pub mod MovedEdges

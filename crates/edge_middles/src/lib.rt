@@ -3,7 +3,8 @@
 //! In `specs`: `Middles` says which midpoints the edges of a split can have; `MovedEdges` moves points and edges by
 //! whole cubes; `HeldMiddles` says which midpoints the cells of a cube of a grid have; `GridMiddles` says at which
 //! midpoints a bipolar edge is there, and how many come before another; `RowCounts` says how this number grows along a
-//! row of midpoints and from a row to the next; `MiddleTests` has tests of one cube that compute.
+//! row of midpoints and from a row to the next; `MeshMiddles` says by midpoints what a mesh is made of; `MiddleTests`
+//! has tests of one cube that compute.
 //!
 //! In `proofs`: `MiddlesFound` computes them for each split; `CubeMiddles` says by it that the cells of one cube
 //! have an edge at each point of the cube that can be a midpoint, and at no other; `MovedMiddles` moves midpoints and
@@ -11,18 +12,21 @@
 //! that the midpoints of a cube of a grid are the points that it holds and that can be midpoints. `OrderedPoints` puts
 //! the points of a grid in order, `PointsThere` goes from a midpoint that is there to an edge of a kept cell and back,
 //! `ListedEdges` lists the bipolar edges by midpoints, and `PlacesOfEdges` finds their places in the list; `RowCounts`
-//! and `NextRows` count the edges along a row and from a row to the next.
+//! and `NextRows` count the edges along a row and from a row to the next; `MeshMiddles` goes to vertices and simplices.
 #![tactic(auto)]
 
-ghost use Rattle.std.specs.Prelude.{ℕ, List, length};
+ghost use Rattle.std.specs.Prelude.{ℕ, Bool, List, length};
 ghost use Rattle.iso_model.specs.declared.Kind.{Kind};
 ghost use Rattle.iso_model.specs.Cells.{HasDimension};
 ghost use Rattle.iso_model.specs.Dimensions.{IsDimension};
+ghost use Rattle.iso_model.specs.Tables.{Table};
 ghost use Rattle.iso_model.specs.Values.{Volume};
 ghost use Rattle.edge_middles.specs.GridMiddles.{AreByMiddles, HasPlace};
 ghost use Rattle.edge_middles.specs.HeldMiddles.{HasHeldMiddles};
 ghost use Rattle.edge_middles.specs.RowCounts.{CountsCentres, CountsFirst, CountsCentre, CountsNone};
 ghost use Rattle.edge_middles.specs.RowCounts.{CountsPoints, CountsRows, CountsSame, CountsSamples};
+ghost use Rattle.edge_middles.specs.MeshMiddles.{AreBetweenHeights, CountsCellEdges, GoCubeByCube};
+ghost use Rattle.edge_middles.specs.MeshMiddles.{HasCountedSimplices, HasSimplicesByCubes, HasVerticesByMiddles};
 ghost use Rattle.edge_middles.specs.Middles.{HasAllMiddles, HasEdgesAtMiddles};
 ghost use Rattle.edge_middles.specs.MovedEdges.{AreMovedEdges, HasGridEdgesAtMiddles, MovesEdges};
 
@@ -58,4 +62,16 @@ pub fn counts_law()
     ensures rows { (v : Volume) (rest : List ℕ) → HasDimension v.kind (length v.sizes) → CountsRows v rest }
     ensures same { (v : Volume) (p q : List ℕ) → CountsSame v p q }
     ensures none { (v : Volume) (n : ℕ) → CountsNone v n }
+{}
+
+/// What a mesh is made of, by midpoints: the edges between two heights, the vertices, and the simplices, whose edges
+/// have the numbers of midpoints before their own; the kept cells go cube by cube, and cubes whose cells have empty
+/// entries may be passed over.
+pub fn mesh_law()
+    ensures heights { (v : Volume) → HasDimension v.kind (length v.sizes) → AreBetweenHeights v }
+    ensures vertices { (v : Volume) (t : Table) → HasDimension v.kind (length v.sizes) → HasVerticesByMiddles v t }
+    ensures edges { (v : Volume) → HasDimension v.kind (length v.sizes) → CountsCellEdges v }
+    ensures cell { (v : Volume) (t : Table) → HasDimension v.kind (length v.sizes) → HasCountedSimplices v t }
+    ensures cubes { (v : Volume) → GoCubeByCube v }
+    ensures simplices { (v : Volume) (t : Table) → HasDimension v.kind (length v.sizes) → HasSimplicesByCubes v t }
 {}
