@@ -79,7 +79,7 @@ back_long [] m e = refl
 back_long (c ∷ x) [] e = absurd (omega (arith, e))
 back_long (c ∷ x) (k ∷ m) e = ap suc (back_long x m (omega (arith, e)))
 
-low_side : (c k : ℕ) (rest : Bool) → (nat_le (4 * c) k && nat_le k (4 * c + 4) && rest) ≡ true → 4 * c ≤ k
+pub low_side : (c k : ℕ) (rest : Bool) → (nat_le (4 * c) k && nat_le k (4 * c + 4) && rest) ≡ true → 4 * c ≤ k
 low_side c k rest t = leb-true (4 * c) k (and_left (nat_le (4 * c) k) (nat_le k (4 * c + 4)) (and_left (nat_le (4 * c) k && nat_le k (4 * c + 4)) rest t))
 
 pub high_side : (c k : ℕ) (rest : Bool) → (nat_le (4 * c) k && nat_le k (4 * c + 4) && rest) ≡ true → k ≤ 4 * c + 4

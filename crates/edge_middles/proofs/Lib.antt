@@ -2,6 +2,7 @@ pub mod CubeMiddles
 pub mod GridEdges
 pub mod GridMidpoints
 pub mod HeldPoints
+pub mod KeptAround
 pub mod ListedEdges
 pub mod MeshMiddles
 pub mod MiddlesFound
@@ -11,3 +12,4 @@ pub mod OrderedPoints
 pub mod PlacesOfEdges
 pub mod PointsThere
 pub mod RowCounts
+pub mod WhatIsThere

@@ -23,13 +23,20 @@ use Rattle.edge_middles.proofs.HeldPoints.{has_held, high_side}
 
 -- ---- a point that a cube of the grid holds is one of the grid's
 
+-- where a cube stands along an axis, and in what number of rows
+pub along_axis : (span count cube : ℕ) → cube < span * count → (cube % span < span) × (cube / span < count)
+along_axis zero count cube few = absurd (let none : zero * count ≡ 0 = omega arith in omega (arith, few, none))
+along_axis (suc span) count cube few =
+    let turned : cube < count * suc span = subst (λ n. cube < n) (mul_comm (suc span) count) few in
+    (mod-lt cube (omega arith), (div-lt_iff_lt-mul (omega arith)).1 turned)
+
 pub in_points : (sizes : List ℕ) (cube : ℕ) (m : List ℕ) → cube < cube_count sizes → length m ≡ length sizes → holds (cube_at sizes cube) m ≡ true
     → In m (quarter_points sizes)
 in_points [] cube [] few long held = inl refl
 in_points [] cube (k ∷ m) few long held = absurd (omega (arith, long))
 in_points (n ∷ sizes) cube [] few long held = absurd (omega (arith, long))
 in_points (n ∷ sizes) cube (k ∷ m) few long held =
-    let split = by_axis (n - 1) (cube_count sizes) cube few in
+    let split = along_axis (n - 1) (cube_count sizes) cube few in
     let c : ℕ = cube % (n - 1) in
     let rest = in_points sizes (cube / (n - 1)) m split.1 (omega (arith, long))
     (and_right (nat_le (4 * c) k && nat_le k (4 * c + 4)) (holds (cube_at sizes (cube / (n - 1))) m) held) in
@@ -37,16 +44,10 @@ in_points (n ∷ sizes) cube (k ∷ m) few long held =
     let below : k < 4 * n - 3 = omega (arith, high, split.0) in
     In-flat_map (λ r. map (λ j. j ∷ r) (numbers (4 * n - 3))) (quarter_points sizes) m (k ∷ m) rest
     (In-map (λ j. j ∷ m) (numbers (4 * n - 3)) k (In-numbers (4 * n - 3) k below))
-  where
-    by_axis : (span count cube : ℕ) → cube < span * count → (cube % span < span) × (cube / span < count)
-    by_axis zero count cube few = absurd (let none : zero * count ≡ 0 = omega arith in omega (arith, few, none))
-    by_axis (suc span) count cube few =
-        let turned : cube < count * suc span = subst (λ n. cube < n) (mul_comm (suc span) count) few in
-        (mod-lt cube (omega arith), (div-lt_iff_lt-mul (omega arith)).1 turned)
 
 -- ---- the kept cubes
 
-from_kept : (v : Volume) (x : List ℕ) → In x (kept_cubes v)
+pub from_kept : (v : Volume) (x : List ℕ) → In x (kept_cubes v)
     → (cube : ℕ) × (cube < cube_count v.sizes) × (x ≡ cube_at v.sizes cube) × (v.kept x ≡ true)
 unfolding kept_cubes
 from_kept v x i =
@@ -54,7 +55,7 @@ from_kept v x i =
     let from = from_In-map (cube_at v.sizes) (numbers (cube_count v.sizes)) x there.0 in
     (from.0, from_In-numbers (cube_count v.sizes) from.0 from.1, from.2, there.1)
 
-to_kept : (v : Volume) (cube : ℕ) → cube < cube_count v.sizes → v.kept (cube_at v.sizes cube) ≡ true → In (cube_at v.sizes cube) (kept_cubes v)
+pub to_kept : (v : Volume) (cube : ℕ) → cube < cube_count v.sizes → v.kept (cube_at v.sizes cube) ≡ true → In (cube_at v.sizes cube) (kept_cubes v)
 unfolding kept_cubes
 to_kept v cube few kept =
     In-filter v.kept (map (cube_at v.sizes) (numbers (cube_count v.sizes))) (cube_at v.sizes cube)

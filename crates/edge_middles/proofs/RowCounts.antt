@@ -111,7 +111,7 @@ not_odd : (c : ℕ) → c % 2 ≡ 0 → (c % 2 == 1) ≡ false
 not_odd c e = ap (λ n. n == 1) e
 
 -- no coordinate is both even and odd
-even_and_odd : (rest : List ℕ) → 1 ≤ length rest → joins_samples rest ≡ true → joins_centre rest ≡ true → ⊥
+pub even_and_odd : (rest : List ℕ) → 1 ≤ length rest → joins_samples rest ≡ true → joins_centre rest ≡ true → ⊥
 even_and_odd [] some even odd = omega (arith, some)
 even_and_odd (c ∷ rest) some even odd =
     let first = equal_of (c % 2) 0 (and_left (c % 2 == 0) (joins_samples rest) even) in
@@ -126,7 +126,7 @@ none_middle Pyramid m a b = λ i. (a i && (axes_along m == 1)) || b i
 none_there : (v : Volume) (m : List ℕ) → is_middle v.kind m ≡ false → is_there v m ≡ false
 none_there v m e = λ i. e i && list_any (λ x. holds x m) (kept_cubes v) && is_bipolar v (edge_at m)
 
-is_false : (t : Bool) → (t ≡ true → ⊥) → t ≡ false
+pub is_false : (t : Bool) → (t ≡ true → ⊥) → t ≡ false
 is_false true n = absurd (n refl)
 is_false false n = refl
 

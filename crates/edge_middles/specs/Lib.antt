@@ -5,3 +5,4 @@ pub mod MiddleTests
 pub mod Middles
 pub mod MovedEdges
 pub mod RowCounts
+pub mod WhatIsThere

@@ -2,20 +2,21 @@
 //!
 //! In `specs`: `Middles` says which midpoints the edges of a split can have; `MovedEdges` moves points and edges by
 //! whole cubes; `HeldMiddles` says which midpoints the cells of a cube of a grid have; `GridMiddles` says at which
-//! midpoints a bipolar edge is there, and how many come before another; `RowCounts` says how this number grows along a
-//! row of midpoints and from a row to the next; `MeshMiddles` says by midpoints what a mesh is made of; `MiddleTests`
-//! has tests of one cube that compute.
+//! midpoints a bipolar edge is there, and how many come before another; `WhatIsThere` says this by the samples and the
+//! cubes around; `RowCounts` says how the number grows along a row of midpoints and from a row to the next;
+//! `MeshMiddles` says by midpoints what a mesh is made of; `MiddleTests` has tests of one cube that compute.
 //!
 //! In `proofs`: `MiddlesFound` computes them for each split; `CubeMiddles` says by it that the cells of one cube
 //! have an edge at each point of the cube that can be a midpoint, and at no other; `MovedMiddles` moves midpoints and
 //! edges by whole cubes, and `GridEdges` and `GridMidpoints` say that the edges of a grid are such; `HeldPoints` says
 //! that the midpoints of a cube of a grid are the points that it holds and that can be midpoints. `OrderedPoints` puts
 //! the points of a grid in order, `PointsThere` goes from a midpoint that is there to an edge of a kept cell and back,
-//! `ListedEdges` lists the bipolar edges by midpoints, and `PlacesOfEdges` finds their places in the list; `RowCounts`
-//! and `NextRows` count the edges along a row and from a row to the next; `MeshMiddles` goes to vertices and simplices.
+//! `ListedEdges` lists the bipolar edges by midpoints, and `PlacesOfEdges` finds their places in the list; `KeptAround`
+//! and `WhatIsThere` go to the kept cubes and the samples; `RowCounts` and `NextRows` count the edges along a row and
+//! from a row to the next; `MeshMiddles` goes to vertices and simplices.
 #![tactic(auto)]
 
-ghost use Rattle.std.specs.Prelude.{ℕ, Bool, List, length};
+ghost use Rattle.std.specs.Prelude.{ℕ, List, length};
 ghost use Rattle.iso_model.specs.declared.Kind.{Kind};
 ghost use Rattle.iso_model.specs.Cells.{HasDimension};
 ghost use Rattle.iso_model.specs.Dimensions.{IsDimension};
@@ -27,6 +28,7 @@ ghost use Rattle.edge_middles.specs.RowCounts.{CountsCentres, CountsFirst, Count
 ghost use Rattle.edge_middles.specs.RowCounts.{CountsPoints, CountsRows, CountsSame, CountsSamples};
 ghost use Rattle.edge_middles.specs.MeshMiddles.{AreBetweenHeights, CountsCellEdges, GoCubeByCube};
 ghost use Rattle.edge_middles.specs.MeshMiddles.{HasCountedSimplices, HasSimplicesByCubes, HasVerticesByMiddles};
+ghost use Rattle.edge_middles.specs.WhatIsThere.{IsHeldByKept, IsThereAtCentre, IsThereInRow, StandsWhereKept};
 ghost use Rattle.edge_middles.specs.Middles.{HasAllMiddles, HasEdgesAtMiddles};
 ghost use Rattle.edge_middles.specs.MovedEdges.{AreMovedEdges, HasGridEdgesAtMiddles, MovesEdges};
 
@@ -49,6 +51,15 @@ pub fn middles_law()
 pub fn places_law()
     ensures listed { (v : Volume) → HasDimension v.kind (length v.sizes) → AreByMiddles v }
     ensures places { (v : Volume) → HasDimension v.kind (length v.sizes) → (middle : List ℕ) → HasPlace v middle }
+{}
+
+/// An edge is there at a midpoint where the split has its direction, the samples or the centre at its ends have
+/// different signs, and one of the cubes around it is kept.
+pub fn there_law()
+    ensures kept { (v : Volume) (x : List ℕ) → StandsWhereKept v x }
+    ensures held { (v : Volume) (middle : List ℕ) → IsHeldByKept v middle }
+    ensures row { (v : Volume) (rest : List ℕ) (x : ℕ) → HasDimension v.kind (length v.sizes) → IsThereInRow v rest x }
+    ensures centre { (v : Volume) (rest : List ℕ) (x : ℕ) → IsThereAtCentre v rest x }
 {}
 
 /// Along a row of midpoints the number of edges before a point grows by those that are there; no edge stands between
