@@ -31,9 +31,6 @@ all_inside : (kind : Kind) (d : ℕ) → IsDimension d → HasDimension kind d �
 all_inside = of_each_cell (λ kind d. lie_inside kind d ≡ true) squares_inside cubes_inside hypercubes_inside triangles_inside
     tetrahedra_inside four_simplices_inside pyramids_inside
 
-pub same_itself : (xs : List ℕ) → same_list xs xs ≡ true
-same_itself xs = (bytes_eq-Decides xs xs).1 refl
-
 -- a point of the cube, by its coordinates
 in_cube : (d : ℕ) (p : List ℕ) → length p ≡ d → All (λ c. c ≤ 4) p → In p (cube_points d)
 in_cube zero [] e all = inl refl
@@ -71,8 +68,8 @@ has_all kind d is fits m =
       λ there.
           let in_it = all_In (λ q. (length q == d) && list_all (λ c. nat_le c 4) q) (cube_middles kind d) (all_inside kind d is fits) m there in
           let long : length m ≡ d = equal_of (length m) d (and_left (length m == d) (list_all (λ c. nat_le c 4) m) in_it) in
-          let few = and_right (length m == d) (list_all (λ c. nat_le c 4) m) in_it in
-          let small = All-from_In (λ c. c ≤ 4) m (λ c inside. leb-true c 4 (all_In (λ n. nat_le n 4) m few c inside)) in
+          let each = and_right (length m == d) (list_all (λ c. nat_le c 4) m) in_it in
+          let small : All (λ c. c ≤ 4) m = All-from_In (λ c. c ≤ 4) m (λ c i. leb-true c 4 (all_In (λ n. nat_le n 4) m each c i)) in
           (long, small, (by_test kind d m (is_middle kind m) refl (test m (in_cube d m long small))).0 there),
       λ can. (by_test kind d m (is_middle kind m) refl (test m (in_cube d m can.0 can.1))).1 can.2,
     )

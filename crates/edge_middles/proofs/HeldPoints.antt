@@ -106,13 +106,6 @@ back_small (a ∷ x) (k ∷ m) e t c (inr there) =
 
 -- ---- the midpoints of the edges of a cube's cells are moved from the first cube
 
-either_order : (p q : List ℕ) → midpoint (edge_of_ends p q) ≡ plus p q
-either_order p q = by_case (comes_first p q)
-  where
-    by_case : (t : Bool) → midpoint (if t then record { low = p; high = q } else record { low = q; high = p }) ≡ plus p q
-    by_case true = refl
-    by_case false = plus_comm q p
-
 -- the midpoint of edge e of the cell of this rank, from the first corner of its cube
 abbrev middle_from : Kind → ℕ → ℕ → ℕ → List ℕ
 middle_from kind d rank e = plus (corner_offset kind d rank (edge_ends kind d e).0) (corner_offset kind d rank (edge_ends kind d e).1)
@@ -130,6 +123,13 @@ midpoint_moved kind sizes h cube rank e few =
     let within = edge_from kind d rank e in
     ap midpoint as_moved ∙ plus_moved (cube_at sizes cube) within.low within.high
     ∙ ap (moved 4 (cube_at sizes cube)) (either_order (corner_offset kind d rank (edge_ends kind d e).0) (corner_offset kind d rank (edge_ends kind d e).1))
+  where
+    either_order : (p q : List ℕ) → midpoint (edge_of_ends p q) ≡ plus p q
+    either_order p q = by_case (comes_first p q)
+      where
+        by_case : (t : Bool) → midpoint (if t then record { low = p; high = q } else record { low = q; high = p }) ≡ plus p q
+        by_case true = refl
+        by_case false = plus_comm q p
 
 -- ---- both ways
 

@@ -1,10 +1,11 @@
 -- The kept cubes by their places, and which of them hold a midpoint.
+use Rattle.std.proofs.lemmas.List.Folds.{list_any-append}
 use Rattle.std.proofs.Common.{ap, arith, inl, inr, refl, sym, subst, ◌∙◌}
 use Rattle.std.proofs.lemmas.Bool.{cases_eq, false≢true, le-leb}
 use Rattle.std.proofs.lemmas.Nat.{div-mul-add}
 use Rattle.std.proofs.Math.Nat.{add-mul-mod_self_left, mod-eq_of_lt, mul_comm}
 use Rattle.std.specs.List.{list_any}
-use Rattle.std.specs.Prelude.{Bool, List, [], ◌∷◌, ◌++◌, false, true, flat_map, length, map, nat_le, nat_lt, suc, zero, ℕ}
+use Rattle.std.specs.Prelude.{Bool, List, [], ◌∷◌, false, true, flat_map, length, map, nat_le, nat_lt, suc, zero, ℕ}
 use Rattle.std.specs.Prelude.{◌*◌, ◌+◌, ◌-◌, ◌/◌, ◌%◌, ◌<◌, ◌≤◌, ◌&&◌, ◌||◌, ◌≡◌}
 use Rattle.iso_model.specs.Splits.{cube_at, cube_count}
 use Rattle.iso_model.specs.Values.{Volume, sample_number}
@@ -110,14 +111,6 @@ held_by_kept v m long =
 
 -- ---- along axis 0
 
-any_append : {X : Type 0} (p : X → Bool) (xs ys : List X) → list_any p (xs ++ ys) ≡ (list_any p xs || list_any p ys)
-any_append p [] ys = refl
-any_append p (x ∷ xs) ys = ap (λ b. p x || b) (any_append p xs ys) ∙ or_regroup (p x) (list_any p xs) (list_any p ys)
-  where
-    or_regroup : (a b c : Bool) → (a || (b || c)) ≡ ((a || b) || c)
-    or_regroup true b c = refl
-    or_regroup false b c = refl
-
 cross : (a b c d : Bool) → ((a || (b || false)) || (c || d)) ≡ ((a || c) || (b || d))
 cross true b c d = refl
 cross false true true d = refl
@@ -134,7 +127,7 @@ module _ (v : Volume) (a b : ℕ) where
       let more = two_places rests in
       let here : Bool = is_kept_at v (a ∷ rest) in
       let other : Bool = is_kept_at v (b ∷ rest) in
-      any_append (is_kept_at v) (map (λ x. x ∷ rest) (a ∷ b ∷ [])) (flat_map (λ r. map (λ x. x ∷ r) (a ∷ b ∷ [])) rests)
+      list_any-append (is_kept_at v) (map (λ x. x ∷ rest) (a ∷ b ∷ [])) (flat_map (λ r. map (λ x. x ∷ r) (a ∷ b ∷ [])) rests)
       ∙ ap (λ t. (here || (other || false)) || t) more
       ∙ cross here other (list_any (λ r. is_kept_at v (a ∷ r)) rests) (list_any (λ r. is_kept_at v (b ∷ r)) rests)
 

@@ -21,14 +21,14 @@ use Rattle.lists.proofs.Orderings.{ascends_by_steps}
 use Rattle.edge_middles.specs.Middles.{edge_at}
 use Rattle.edge_middles.specs.GridMiddles.{AreByMiddles, is_there, middles_there, quarter_points}
 use Rattle.edge_middles.proofs.GridMidpoints.{own_middles}
-use Rattle.edge_middles.proofs.OrderedPoints.{ComesFirst, filter_ascends, map_ascends, points_ascend}
+use Rattle.edge_middles.proofs.OrderedPoints.{ComesFirst, map_ascends, passing_ascend, points_ascend}
 use Rattle.edge_middles.proofs.PointsThere.{has_cell, held_by_cube, member_there, stands, stands_at, stands_from}
 
 -- ---- the midpoints that are there
 
 pub there_ascend : (v : Volume) → AscendsBy ComesFirst (middles_there v)
 unfolding middles_there
-there_ascend v = filter_ascends ComesFirst (is_there v) (quarter_points v.sizes) (points_ascend v.sizes)
+there_ascend v = passing_ascend (is_there v) (quarter_points v.sizes) (points_ascend v.sizes)
 
 points_long : (sizes : List ℕ) (m : List ℕ) → In m (quarter_points sizes) → length m ≡ length sizes
 points_long [] m (inl e) = ap length e

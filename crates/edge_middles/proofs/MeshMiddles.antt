@@ -1,11 +1,12 @@
 -- What a mesh is made of, by the midpoints of its edges: the edges of each slice, the vertices, and the simplices with counted edges.
+use Rattle.lists.proofs.Ascending.{Ascends-filter, Ascends-range}
 use Rattle.std.proofs.Common.{ap, arith, refl, sym, subst, ◌∙◌}
 use Rattle.std.proofs.lemmas.Bool.{and_parts}
 use Rattle.std.proofs.lemmas.Grind.{flat_map-append}
 use Rattle.std.proofs.lemmas.Nat.{div-mul-add}
 use Rattle.std.proofs.Math.Nat.{mul-le-mul_left, mul_comm}
-use Rattle.std.specs.List.{list_all, list_any, range_with_len}
-use Rattle.std.specs.Prelude.{Bool, Contains, List, [], ◌∷◌, ◌++◌, false, true, filter, flat_map, length, map, nat_le, nat_lt, not, suc, zero, ℕ}
+use Rattle.std.specs.List.{list_all, list_any}
+use Rattle.std.specs.Prelude.{Bool, Contains, List, [], ◌∷◌, ◌++◌, false, true, filter, flat_map, length, map, nat_le, nat_lt, not, ℕ}
 use Rattle.std.specs.Prelude.{◌*◌, ◌+◌, ◌/◌, ◌<◌, ◌≤◌, ◌&&◌, ◌||◌, ◌==◌, ◌≡◌, if◌then◌else◌}
 use Rattle.cell_lattice.specs.CellLemmas.{ordered_ends}
 use Rattle.iso_model.specs.Acceptance.{is_sound_tuple}
@@ -21,11 +22,11 @@ use Rattle.iso_model.proofs.BipolarLaws.{Contains-flat_map}
 use Rattle.iso_model.proofs.FaceLaws.{cells_below}
 use Rattle.iso_model.proofs.SignLaws.{either_order, label_bit}
 use Rattle.lists.specs.Bits.{is_set}
-use Rattle.lists.specs.Members.{AscendsBy, In, IsStrict}
+use Rattle.lists.specs.Members.{Ascends, AscendsBy, In, IsStrict}
 use Rattle.lists.specs.Orders.{exchange_last, has, is_distinct, numbers}
 use Rattle.lists.proofs.Contained.{Contains-head, Contains-tail, Contains-filter, Contains-filtered, Contains-joined, Contains-passes}
 use Rattle.lists.proofs.Contained.{below_contained, contained_below, each-from_All, from_Contains-map}
-use Rattle.lists.proofs.MemberLaws.{Contains_from, In_from, above_range, all_In, map-map, map_same}
+use Rattle.lists.proofs.MemberLaws.{Contains_from, In_from, all_In, map-map, map_same}
 use Rattle.lists.proofs.Orderings.{ascends_same}
 use Rattle.edge_middles.specs.Middles.{edge_at}
 use Rattle.edge_middles.specs.GridMiddles.{count_before, middles_there}
@@ -34,7 +35,7 @@ use Rattle.edge_middles.specs.MeshMiddles.{AreBetweenHeights, CountsCellEdges, G
 use Rattle.edge_middles.specs.MeshMiddles.{HasVerticesByMiddles, counted_simplices, kept_numbers, middle_height}
 use Rattle.edge_middles.proofs.GridMidpoints.{own_middles}
 use Rattle.edge_middles.proofs.ListedEdges.{by_middles, contains_cell, kept_cell, own_there}
-use Rattle.edge_middles.proofs.OrderedPoints.{filter_ascends, flat_map_ascends, map_ascends}
+use Rattle.edge_middles.proofs.OrderedPoints.{flat_map_ascends, map_ascends}
 use Rattle.edge_middles.proofs.PlacesOfEdges.{has_place}
 use Rattle.edge_middles.proofs.PointsThere.{cell_inside, cell_of_cube, cube_inside, held_by_cube, stands_at, stands_from}
 
@@ -121,10 +122,9 @@ Less a b = a < b
 less_strict : IsStrict Less
 less_strict = record { irreflexive = λ x h. omega (arith, h); transitive = λ x y z h k. omega (arith, h, k) }
 
-numbers_ascend : (a n : ℕ) → AscendsBy Less (range_with_len a n)
-numbers_ascend a zero = tt
-numbers_ascend a (suc n) =
-    (λ y c. omega (arith, above_range (a + 1) n y (In_from (range_with_len (a + 1) n) y c)), numbers_ascend (a + 1) n)
+by_less : (xs : List ℕ) → Ascends xs → AscendsBy Less xs
+by_less [] a = tt
+by_less (x ∷ xs) a = (λ y c. a.0 y (In_from xs y c), by_less xs a.1)
 
 cubes_apart : (per b c r s : ℕ) → b < c → r < per → b * per + r < c * per + s
 cubes_apart per b c r s h k =
@@ -135,12 +135,13 @@ module _ (v : Volume) where
   in_cube : (cube : ℕ) → AscendsBy Less (cells_in v.kind v.sizes cube)
   in_cube cube =
       map_ascends Less Less (λ rank. cube * cells_per_cube v.kind (length v.sizes) + rank) (numbers (cells_per_cube v.kind (length v.sizes)))
-      (λ x y c d h. omega (arith, h)) (numbers_ascend 0 (cells_per_cube v.kind (length v.sizes)))
+      (λ x y c d h. omega (arith, h)) (by_less (numbers (cells_per_cube v.kind (length v.sizes))) (Ascends-range 0 (cells_per_cube v.kind (length v.sizes))))
 
   cube_by_cube_ascends : AscendsBy Less (flat_map (cells_in v.kind v.sizes) (kept_numbers v))
   cube_by_cube_ascends =
       flat_map_ascends Less Less (cells_in v.kind v.sizes) (kept_numbers v)
-      (filter_ascends Less (λ cube. v.kept (cube_at v.sizes cube)) (numbers (cube_count v.sizes)) (numbers_ascend 0 (cube_count v.sizes)))
+      (by_less (kept_numbers v)
+      (Ascends-filter (λ cube. v.kept (cube_at v.sizes cube)) (numbers (cube_count v.sizes)) (Ascends-range 0 (cube_count v.sizes))))
       in_cube
       (λ b c x y h i j.
       let m : ℕ = cells_per_cube v.kind (length v.sizes) in
@@ -178,7 +179,7 @@ module _ (v : Volume) where
   unfolding cells
   cube_by_cube =
       ascends_same Less less_strict (cells v) (flat_map (cells_in v.kind v.sizes) (kept_numbers v))
-      (filter_ascends Less (is_kept v) (numbers (cell_count v.kind v.sizes)) (numbers_ascend 0 (cell_count v.kind v.sizes)))
+      (by_less (cells v) (Ascends-filter (is_kept v) (numbers (cell_count v.kind v.sizes)) (Ascends-range 0 (cell_count v.kind v.sizes))))
       cube_by_cube_ascends (λ cell. (to_cube cell, from_cube cell))
 
 -- ---- the simplices of a mesh
@@ -206,10 +207,9 @@ all_same f g [] same = refl
 all_same f g (x ∷ xs) same =
     ap (λ ys. ys ++ flat_map f xs) (same x (Contains-head x xs)) ∙ ap (λ ys. g x ++ ys) (all_same f g xs (λ y c. same y (Contains-tail y x xs c)))
 
-none_given : {X Y : Type 0} (f : X → List Y) (xs : List X) → ((x : X) → Contains xs x → f x ≡ []) → flat_map f xs ≡ []
-none_given f [] none = refl
-none_given f (x ∷ xs) none =
-    ap (λ ys. ys ++ flat_map f xs) (none x (Contains-head x xs)) ∙ none_given f xs (λ y c. none y (Contains-tail y x xs c))
+nothing : {X Y : Type 0} (xs : List X) → flat_map {X = X} {A = Y} (λ x. []) xs ≡ []
+nothing [] = refl
+nothing (x ∷ xs) = nothing xs
 
 pub simplices_by_cubes : (v : Volume) (t : Table) → HasDimension v.kind (length v.sizes) → IsDimension (length v.sizes)
     → HasSimplicesByCubes v t
@@ -222,5 +222,6 @@ simplices_by_cubes v t fits dim mixed entries plain =
     (λ cube c e. all_same f (counted_simplices v t) (g cube) (λ cell i.
     let there = from_cube v cell (Contains-joined g (kept_numbers v) cube cell c i) in
     has_counted v t fits dim cell there (entries cell there)))
-    (λ cube c e. none_given f (g cube) (λ cell i.
-    ap (map (placed_tuple (is_odd_cell v.kind v.sizes cell) (λ n. place_in (bipolar_edges v) (edge v.kind v.sizes cell n)))) (plain cube cell c e i)))
+    (λ cube c e. all_same f (λ cell. []) (g cube) (λ cell i.
+    ap (map (placed_tuple (is_odd_cell v.kind v.sizes cell) (λ n. place_in (bipolar_edges v) (edge v.kind v.sizes cell n)))) (plain cube cell c e i))
+    ∙ nothing (g cube))

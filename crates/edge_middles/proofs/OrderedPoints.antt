@@ -38,13 +38,6 @@ flat_map_ascends R S f (x ∷ xs) a each before =
     let from = Contains-flat_map f xs w d in
     before x from.0 v w (a.0 from.0 from.1) c from.2)
 
-pub filter_ascends : {X : Type 0} (R : X → X → Type 0) (p : X → Bool) (xs : List X) → AscendsBy R xs → AscendsBy R (filter p xs)
-filter_ascends R p [] a = tt
-filter_ascends {X} R p (x ∷ xs) a = elim (p x) as (λ b. AscendsBy R (if b then x ∷ filter p xs else filter p xs)) [
-  | true ↦ (λ y c. a.0 y (Contains-filter p xs y c), filter_ascends R p xs a.1)
-  | false ↦ filter_ascends R p xs a.1
-]
-
 pub map_ascends : {X Y : Type 0} (R : X → X → Type 0) (S : Y → Y → Type 0) (f : X → Y) (xs : List X)
     → ((x y : X) → Contains xs x → Contains xs y → R x y → S (f x) (f y)) → AscendsBy R xs → AscendsBy S (map f xs)
 map_ascends R S f [] keeps a = tt
@@ -60,6 +53,14 @@ map_ascends {X} {Y} R S f (x ∷ xs) keeps a = (
 -- a point comes before another
 abbrev pub ComesFirst : List ℕ → List ℕ → Type 0
 ComesFirst = Earlier (λ p. p)
+
+-- points that pass a test
+pub passing_ascend : (p : List ℕ → Bool) (ms : List (List ℕ)) → AscendsBy ComesFirst ms → AscendsBy ComesFirst (filter p ms)
+passing_ascend p [] a = tt
+passing_ascend p (m ∷ ms) a = elim (p m) as (λ b. AscendsBy ComesFirst (if b then m ∷ filter p ms else filter p ms)) [
+  | true ↦ (λ n c. a.0 n (Contains-filter p ms n c), passing_ascend p ms a.1)
+  | false ↦ passing_ascend p ms a.1
+]
 
 pub first_by_rest : (a b : ℕ) (p q : List ℕ) → comes_first p q ≡ true → comes_first (a ∷ p) (b ∷ q) ≡ true
 first_by_rest a b p q e = or_left (comes_first p q) (same_list p q && nat_lt a b) e

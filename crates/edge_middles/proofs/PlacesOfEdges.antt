@@ -1,5 +1,6 @@
 -- The place of an edge in the list of bipolar edges is the number of midpoints before its own.
-use Rattle.std.proofs.Common.{ap, inl, inr, refl, sym, subst, ◌∙◌}
+use Rattle.std.proofs.lemmas.Bool.{false_from_ne_true}
+use Rattle.std.proofs.Common.{ap, inl, inr, sym, subst, ◌∙◌}
 use Rattle.std.specs.Prelude.{Bool, Contains, List, [], ◌∷◌, cond, count_by, false, true, length, map, not, ℕ, ◌+◌, ◌≡◌}
 use Rattle.std.specs.List.{position_or_len}
 use Rattle.iso_model.specs.Cells.{HasDimension}
@@ -28,10 +29,6 @@ first_place t n e = ap (λ b. cond (not b) (1 + n) 0) e
 later_place : (t : Bool) (n : ℕ) → t ≡ false → cond (not t) (1 + n) 0 ≡ 1 + n
 later_place t n e = ap (λ b. cond (not b) (1 + n) 0) e
 
-not_true : (t : Bool) → (t ≡ true → ⊥) → t ≡ false
-not_true true n = absurd (n refl)
-not_true false n = refl
-
 module _ (m : List ℕ) where
   -- in an ascending list of midpoints the place of the edge at a member is the number of members before it
   pub place_there : (ms : List (List ℕ)) → AscendsBy ComesFirst ms → ((x : List ℕ) → Contains ms x → midpoint (edge_at x) ≡ x) → Contains ms m
@@ -51,7 +48,7 @@ module _ (m : List ℕ) where
             first_place (same_edge (edge_at m) (edge_at x)) (position_or_len (same_edge (edge_at m)) (map edge_at ms)) here ∙ sym none
         | inr later ↦
             let before : comes_first x m ≡ true = a.0 m later in
-            let apart : same_edge (edge_at m) (edge_at x) ≡ false = not_true (same_edge (edge_at m) (edge_at x)) (λ t.
+            let apart : same_edge (edge_at m) (edge_at x) ≡ false = false_from_ne_true (same_edge (edge_at m) (edge_at x)) (λ t.
             let same : m ≡ x = sym (own m (Contains-tail m x ms later)) ∙ ap midpoint (edges_equal (edge_at m) (edge_at x) t)
             ∙ own x (Contains-head x ms) in
             comes_first-irreflexive m (subst (λ z. comes_first z m ≡ true) (sym same) before)) in

@@ -1,4 +1,6 @@
 -- How the number of edges before a midpoint grows along a row of midpoints.
+use Rattle.std.proofs.lemmas.Slice.Eq.{bytes_eq-Decides}
+use Rattle.std.proofs.lemmas.Bool.{false_from_ne_true}
 use Rattle.std.proofs.Common.{ap, arith, inl, inr, refl, sym, subst, ◌∙◌}
 use Rattle.std.proofs.Math.Bool.{and-false}
 use Rattle.std.proofs.lemmas.Bool.{false≢true, or_cases}
@@ -25,17 +27,16 @@ use Rattle.edge_middles.specs.HeldMiddles.{holds}
 use Rattle.edge_middles.specs.Middles.{axes_along, edge_at, is_middle, joins_centre, joins_samples}
 use Rattle.edge_middles.specs.GridMiddles.{count_before, is_there, kept_cubes, middles_there}
 use Rattle.edge_middles.specs.RowCounts.{CountsCentres, CountsFirst, CountsCentre, CountsNone, CountsPoints, CountsSamples, CountsSame, IsRowOfMiddles}
-use Rattle.edge_middles.proofs.CubeMiddles.{same_itself}
 use Rattle.edge_middles.proofs.ListedEdges.{there_ascend, there_is}
 use Rattle.edge_middles.proofs.OrderedPoints.{ComesFirst}
 use Rattle.edge_middles.proofs.PointsThere.{member_there}
 
 -- ---- counts
 
-counts_same : {X : Type 0} (p q : X → Bool) (xs : List X) → ((x : X) → In x xs → p x ≡ q x) → count_by p xs ≡ count_by q xs
-counts_same p q [] same = refl
-counts_same p q (x ∷ xs) same =
-    omega (arith, count_by-cons p x xs, count_by-cons q x xs, ap bit (same x (inl refl)), counts_same p q xs (λ y i. same y (inr i)))
+points_same : (p q : List ℕ → Bool) (ms : List (List ℕ)) → ((m : List ℕ) → In m ms → p m ≡ q m) → count_by p ms ≡ count_by q ms
+points_same p q [] same = refl
+points_same p q (m ∷ ms) same =
+    omega (arith, count_by-cons p m ms, count_by-cons q m ms, ap bit (same m (inl refl)), points_same p q ms (λ n i. same n (inr i)))
 
 bit_or : (a b : Bool) → (a ≡ true → b ≡ true → ⊥) → bit (a || b) ≡ bit a + bit b
 bit_or true true apart = absurd (apart refl refl)
@@ -60,7 +61,7 @@ count_member : (m : List ℕ) (ms : List (List ℕ)) → AscendsBy ComesFirst ms
 count_member m [] a c = absurd (none_contained m c)
 count_member m (x ∷ ms) a c = elim (Contains-split m x ms c) as (λ _. count_by (λ p. same_list p m) (x ∷ ms) ≡ 1) [
   | inl same ↦
-      let here : same_list x m ≡ true = ap (λ p. same_list p m) same ∙ same_itself m in
+      let here : same_list x m ≡ true = ap (λ p. same_list p m) same ∙ (bytes_eq-Decides m m).1 refl in
       let none : count_by (λ p. same_list p m) ms ≡ 0 = count_none (λ p. same_list p m) ms
       (λ y i t. comes_first-irreflexive x (subst (λ z. comes_first x z ≡ true) (lists_equal y m t ∙ sym same) (a.0 y (Contains_from ms y i)))) in
       omega (arith, count_by-cons (λ p. same_list p m) x ms, ap bit here, none)
@@ -97,7 +98,7 @@ next_point c rest (k ∷ r) =
 pub counts_points : (v : Volume) (rest : List ℕ) → CountsPoints v rest
 counts_points v rest row c =
     let m : List ℕ = c ∷ rest in
-    counts_same (λ p. comes_first p ((c + 1) ∷ rest)) (λ p. comes_first p m || same_list p m) (middles_there v) (λ p i. next_point c rest p)
+    points_same (λ p. comes_first p ((c + 1) ∷ rest)) (λ p. comes_first p m || same_list p m) (middles_there v) (λ p i. next_point c rest p)
     ∙ counts_either (λ p. comes_first p m) (λ p. same_list p m) (middles_there v)
     (λ p e t. comes_first-irreflexive m (subst (λ z. comes_first z m ≡ true) (lists_equal p m t) e))
     ∙ ap (λ n. count_before v m + n) (count_once v m row)
@@ -126,22 +127,18 @@ none_middle Pyramid m a b = λ i. (a i && (axes_along m == 1)) || b i
 none_there : (v : Volume) (m : List ℕ) → is_middle v.kind m ≡ false → is_there v m ≡ false
 none_there v m e = λ i. e i && list_any (λ x. holds x m) (kept_cubes v) && is_bipolar v (edge_at m)
 
-pub is_false : (t : Bool) → (t ≡ true → ⊥) → t ≡ false
-is_false true n = absurd (n refl)
-is_false false n = refl
-
 -- in a row at samples and between them there is none at an odd place
 none_odd : (v : Volume) (c : ℕ) (rest : List ℕ) → 1 ≤ length rest → joins_samples rest ≡ true → c % 2 ≡ 1 → is_there v (c ∷ rest) ≡ false
 none_odd v c rest some even odd =
     none_there v (c ∷ rest) (none_middle v.kind (c ∷ rest)
     (ap (λ t. t && joins_samples rest) (not_even c odd))
-    (is_false (joins_centre (c ∷ rest)) (λ t. even_and_odd rest some even (and_right (c % 2 == 1) (joins_centre rest) t))))
+    (false_from_ne_true (joins_centre (c ∷ rest)) (λ t. even_and_odd rest some even (and_right (c % 2 == 1) (joins_centre rest) t))))
 
 -- in a row of edges to centres there is none at an even place
 none_even : (v : Volume) (c : ℕ) (rest : List ℕ) → 1 ≤ length rest → joins_centre rest ≡ true → c % 2 ≡ 0 → is_there v (c ∷ rest) ≡ false
 none_even v c rest some odd even =
     none_there v (c ∷ rest) (none_middle v.kind (c ∷ rest)
-    (is_false (joins_samples (c ∷ rest)) (λ t. even_and_odd rest some (and_right (c % 2 == 0) (joins_samples rest) t) odd))
+    (false_from_ne_true (joins_samples (c ∷ rest)) (λ t. even_and_odd rest some (and_right (c % 2 == 0) (joins_samples rest) t) odd))
     (ap (λ t. t && joins_centre rest) (not_odd c even)))
 
 -- ---- from place to place
@@ -242,7 +239,7 @@ counts_first_centre v rest fits row odd x =
 
 pub counts_between : (v : Volume) (p q : List ℕ) → CountsSame v p q
 counts_between v p q same =
-    counts_same (λ m. comes_first m p) (λ m. comes_first m q) (middles_there v)
+    points_same (λ m. comes_first m p) (λ m. comes_first m q) (middles_there v)
     (λ m i. let is = there_is v m i in same m is.0 is.1)
 
 pub counts_none : (v : Volume) (n : ℕ) → CountsNone v n

@@ -1,4 +1,5 @@
 -- What it says that an edge is there at a midpoint: of the samples at its ends, and of the cubes around it.
+use Rattle.std.proofs.lemmas.Bool.{false_from_ne_true}
 use Rattle.std.proofs.Common.{ap, arith, refl, ◌∙◌}
 use Rattle.std.proofs.lemmas.Bool.Decides.{nat_tests}
 use Rattle.std.proofs.lemmas.Int.{ints}
@@ -21,7 +22,7 @@ use Rattle.edge_middles.specs.HeldMiddles.{holds}
 use Rattle.edge_middles.specs.WhatIsThere.{IsThereAtCentre, IsThereInRow, corner_by, cubes_around, goes_first, goes_second, is_above_at, is_centre_above}
 use Rattle.edge_middles.specs.WhatIsThere.{is_kept_at, sample_above, sample_below}
 use Rattle.edge_middles.proofs.KeptAround.{held_by_kept, kept_at_sample, kept_between}
-use Rattle.edge_middles.proofs.RowCounts.{even_and_odd, is_false, some_rest}
+use Rattle.edge_middles.proofs.RowCounts.{even_and_odd, some_rest}
 
 -- ---- signs of points
 
@@ -104,7 +105,7 @@ first_middle Pyramid x rest some even =
     ∙ or_false (axes_along rest == 1)
   where
     no_centre : (c : ℕ) (rest : List ℕ) → 1 ≤ length rest → joins_samples rest ≡ true → joins_centre (c ∷ rest) ≡ false
-    no_centre c rest some even = is_false (joins_centre (c ∷ rest)) (λ t. even_and_odd rest some even (and_right (c % 2 == 1) (joins_centre rest) t))
+    no_centre c rest some even = false_from_ne_true (joins_centre (c ∷ rest)) (λ t. even_and_odd rest some even (and_right (c % 2 == 1) (joins_centre rest) t))
 
 next_one : (n : ℕ) → (n + 1 == 1) ≡ (n == 0)
 next_one n = grind (arith, nat_tests)
@@ -121,7 +122,7 @@ second_middle Pyramid x rest some even =
     ∙ or_false (axes_along rest + 1 == 1) ∙ next_one (axes_along rest)
   where
     no_centre : joins_centre ((4 * x + 2) ∷ rest) ≡ false
-    no_centre = is_false (joins_centre ((4 * x + 2) ∷ rest))
+    no_centre = false_from_ne_true (joins_centre ((4 * x + 2) ∷ rest))
         (λ t. even_and_odd rest some even (and_right ((4 * x + 2) % 2 == 1) (joins_centre rest) t))
 
 -- ---- what is there
