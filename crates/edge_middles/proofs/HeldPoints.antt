@@ -6,7 +6,7 @@ use Rattle.std.proofs.lemmas.List.Sums.{sum_by-cons}
 use Rattle.std.proofs.Math.Nat.{mod-eq_of_lt, mul-add-mod_self_right}
 use Rattle.std.proofs.lemmas.Nat.{div-mul-add}
 use Rattle.std.specs.Prelude.{All, Bool, List, [], ◌∷◌, cond, false, true, length, map, flat_map, nat_le, nat_lt, suc}
-use Rattle.std.specs.Prelude.{ℕ, ◌*◌, ◌+◌, ◌-◌, ◌/◌, ◌%◌, ◌<◌, ◌≤◌, ◌&&◌, ◌||◌, ◌==◌, ◌≡◌, if◌then◌else◌}
+use Rattle.std.specs.Prelude.{ℕ, ◌*◌, ◌+◌, ◌-◌, ◌/◌, ◌%◌, ◌≤◌, ◌&&◌, ◌||◌, ◌==◌, ◌≡◌, if◌then◌else◌}
 use Rattle.iso_model.specs.declared.Kind.{Kind}
 use Rattle.iso_model.specs.declared.Kind.TheVariants.{Cube, Simplex, Pyramid}
 use Rattle.iso_model.specs.Cells.{HasDimension, edge_count, edge_ends}
@@ -20,7 +20,7 @@ use Rattle.lists.proofs.MemberLaws.{All-from_In, In-flat_map, In-map, from_In-fl
 use Rattle.lists.proofs.Tests.{and_left, and_right}
 use Rattle.edge_middles.specs.Middles.{axes_along, cube_middles, edge_from, is_middle, joins_centre}
 use Rattle.edge_middles.specs.MovedEdges.{moved, moved_edge}
-use Rattle.edge_middles.specs.HeldMiddles.{HasHeldMiddles, IsHeldMiddle, cell_middles, cells_in, holds}
+use Rattle.edge_middles.specs.HeldMiddles.{AreMovedMiddles, HasHeldMiddles, IsHeldMiddle, cell_middles, cells_in, holds, middle_from}
 use Rattle.edge_middles.proofs.CubeMiddles.{has_all}
 use Rattle.edge_middles.proofs.GridEdges.{edges_moved, long_cube}
 use Rattle.edge_middles.proofs.GridMidpoints.{plus_moved}
@@ -106,13 +106,7 @@ back_small (a ∷ x) (k ∷ m) e t c (inr there) =
 
 -- ---- the midpoints of the edges of a cube's cells are moved from the first cube
 
--- the midpoint of edge e of the cell of this rank, from the first corner of its cube
-abbrev middle_from : Kind → ℕ → ℕ → ℕ → List ℕ
-middle_from kind d rank e = plus (corner_offset kind d rank (edge_ends kind d e).0) (corner_offset kind d rank (edge_ends kind d e).1)
-
-midpoint_moved : (kind : Kind) (sizes : List ℕ) → HasDimension kind (length sizes) → (cube rank e : ℕ) → rank < cells_per_cube kind (length sizes)
-    → midpoint (edge kind sizes (cube * cells_per_cube kind (length sizes) + rank) e)
-    ≡ moved 4 (cube_at sizes cube) (middle_from kind (length sizes) rank e)
+pub midpoint_moved : (kind : Kind) (sizes : List ℕ) → HasDimension kind (length sizes) → AreMovedMiddles kind sizes
 midpoint_moved kind sizes h cube rank e few =
     let d : ℕ = length sizes in
     let per : ℕ = cells_per_cube kind d in
@@ -184,8 +178,9 @@ other_way kind sizes fits dim cube middle h =
     let r = from_In-flat_map (rank_middles kind d) (numbers per) o ((has_all kind d dim fits o).1 (long, small, can)) in
     let e = from_In-map (λ k. middle_from kind d r.0 k) (numbers count) o r.2 in
     let cell : ℕ = cube * per + r.0 in
-    let final : middle ≡ midpoint (edge kind sizes cell e.0) =
-    from ∙ ap (moved 4 x) e.2 ∙ sym (midpoint_moved kind sizes fits cube r.0 e.0 (from_In-numbers per r.0 r.1)) in
+    let last : midpoint (edge kind sizes cell e.0) ≡ moved 4 x (middle_from kind d r.0 e.0) =
+    midpoint_moved kind sizes fits cube r.0 e.0 (from_In-numbers per r.0 r.1) in
+    let final : middle ≡ midpoint (edge kind sizes cell e.0) = from ∙ ap (moved 4 x) e.2 ∙ sym last in
     In-flat_map (cell_middles kind sizes) (cells_in kind sizes cube) cell middle (In-map (λ rank. cube * per + rank) (numbers per) r.0 r.1)
     (subst (λ m. In m (cell_middles kind sizes cell)) (sym final) (In-map (λ k. midpoint (edge kind sizes cell k)) (numbers count) e.0 e.1))
 

@@ -1,6 +1,7 @@
 pub mod CubeMiddles
 pub mod GridEdges
 pub mod GridMidpoints
+pub mod Heights
 pub mod HeldPoints
 pub mod KeptAround
 pub mod ListedEdges
@@ -12,4 +13,5 @@ pub mod OrderedPoints
 pub mod PlacesOfEdges
 pub mod PointsThere
 pub mod RowCounts
+pub mod RowLists
 pub mod WhatIsThere

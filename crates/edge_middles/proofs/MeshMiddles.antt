@@ -116,13 +116,13 @@ has_counted v t fits dim cell c h =
 
 -- ---- cells, cube by cube
 
-abbrev Less : ℕ → ℕ → Type 0
+abbrev pub Less : ℕ → ℕ → Type 0
 Less a b = a < b
 
 less_strict : IsStrict Less
 less_strict = record { irreflexive = λ x h. omega (arith, h); transitive = λ x y z h k. omega (arith, h, k) }
 
-by_less : (xs : List ℕ) → Ascends xs → AscendsBy Less xs
+pub by_less : (xs : List ℕ) → Ascends xs → AscendsBy Less xs
 by_less [] a = tt
 by_less (x ∷ xs) a = (λ y c. a.0 y (In_from xs y c), by_less xs a.1)
 
@@ -143,7 +143,7 @@ module _ (v : Volume) where
       (by_less (kept_numbers v)
       (Ascends-filter (λ cube. v.kept (cube_at v.sizes cube)) (numbers (cube_count v.sizes)) (Ascends-range 0 (cube_count v.sizes))))
       in_cube
-      (λ b c x y h i j.
+      (λ b c x y g k h i j.
       let m : ℕ = cells_per_cube v.kind (length v.sizes) in
       let first = from_Contains-map (λ rank. b * m + rank) (numbers m) x i in
       let second = from_Contains-map (λ rank. c * m + rank) (numbers m) y j in

@@ -22,13 +22,13 @@ use Rattle.edge_middles.proofs.PointsThere.{in_points, stands}
 use Rattle.edge_middles.proofs.RowCounts.{before_or_at, counts_between, some_rest}
 
 -- all coordinates have this remainder by 2
-abbrev HaveParity : ℕ → List ℕ → Type 0
+abbrev pub HaveParity : ℕ → List ℕ → Type 0
 HaveParity b p = list_all (λ c. c % 2 == b) p ≡ true
 
-first_parity : (b c : ℕ) (p : List ℕ) → HaveParity b (c ∷ p) → c % 2 ≡ b
+pub first_parity : (b c : ℕ) (p : List ℕ) → HaveParity b (c ∷ p) → c % 2 ≡ b
 first_parity b c p h = equal_of (c % 2) b (and_left (c % 2 == b) (list_all (λ k. k % 2 == b) p) h)
 
-rest_parity : (b c : ℕ) (p : List ℕ) → HaveParity b (c ∷ p) → HaveParity b p
+pub rest_parity : (b c : ℕ) (p : List ℕ) → HaveParity b (c ∷ p) → HaveParity b p
 rest_parity b c p h = and_right (c % 2 == b) (list_all (λ k. k % 2 == b) p) h
 
 -- two points whose coordinates each have one parity, and that are the same but for the first, have the same parity there
@@ -71,7 +71,7 @@ none_below f s k = by_case f s
     by_case false false = refl
 
 -- a point of a grid, along the first axis and the others
-point_parts : (n : ℕ) (sizes : List ℕ) (k : ℕ) (r : List ℕ) → In (k ∷ r) (quarter_points (n ∷ sizes)) → (k < 4 * n - 3) × In r (quarter_points sizes)
+pub point_parts : (n : ℕ) (sizes : List ℕ) (k : ℕ) (r : List ℕ) → In (k ∷ r) (quarter_points (n ∷ sizes)) → (k < 4 * n - 3) × In r (quarter_points sizes)
 point_parts n sizes k r there =
     let from = from_In-flat_map (λ o. map (λ i. i ∷ o) (numbers (4 * n - 3))) (quarter_points sizes) (k ∷ r) there in
     let at = from_In-map (λ i. i ∷ from.0) (numbers (4 * n - 3)) (k ∷ r) from.2 in (
@@ -115,7 +115,7 @@ before_next a b (n ∷ m ∷ sizes) (c ∷ d ∷ rest) (k ∷ j ∷ r) some long
     (λ e. same_parity a b k c j d r rest one other (lists_equal (j ∷ r) (d ∷ rest) e)) later
 
 -- the coordinates of a midpoint all have one parity
-middle_parity : (kind : Kind) (m : List ℕ) → is_middle kind m ≡ true → (joins_samples m ≡ true) ⊎ (joins_centre m ≡ true)
+pub middle_parity : (kind : Kind) (m : List ℕ) → is_middle kind m ≡ true → (joins_samples m ≡ true) ⊎ (joins_centre m ≡ true)
 middle_parity Cube m e = inl (and_left (joins_samples m) (axes_along m == 1) e)
 middle_parity Simplex m e = inl (and_left (joins_samples m) (nat_lt 0 (axes_along m)) e)
 middle_parity Pyramid m e = elim (or_cases (joins_samples m && axes_along m == 1) (joins_centre m) e) as
@@ -124,7 +124,7 @@ middle_parity Pyramid m e = elim (or_cases (joins_samples m && axes_along m == 1
       | inr t ↦ inr t
     ]
 
-has_parity : (m : List ℕ) → (joins_samples m ≡ true) ⊎ (joins_centre m ≡ true) → (b : ℕ) × HaveParity b m
+pub has_parity : (m : List ℕ) → (joins_samples m ≡ true) ⊎ (joins_centre m ≡ true) → (b : ℕ) × HaveParity b m
 has_parity m (inl e) = (0, e)
 has_parity m (inr e) = (1, e)
 

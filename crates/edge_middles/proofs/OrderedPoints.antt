@@ -18,7 +18,7 @@ use Rattle.edge_middles.specs.GridMiddles.{quarter_points}
 
 -- ---- lists that are made of others
 
-append_ascends : {X : Type 0} (R : X → X → Type 0) (xs ys : List X) → AscendsBy R xs → AscendsBy R ys
+pub append_ascends : {X : Type 0} (R : X → X → Type 0) (xs ys : List X) → AscendsBy R xs → AscendsBy R ys
     → ((x y : X) → Contains xs x → Contains ys y → R x y) → AscendsBy R (xs ++ ys)
 append_ascends R [] ys a b before = b
 append_ascends {X} R (x ∷ xs) ys a b before = (
@@ -31,12 +31,14 @@ append_ascends {X} R (x ∷ xs) ys a b before = (
 
 -- lists one after another ascend where each does, and where each member of an earlier one stands before those of a later one
 pub flat_map_ascends : {X Y : Type 0} (R : X → X → Type 0) (S : Y → Y → Type 0) (f : X → List Y) (xs : List X) → AscendsBy R xs
-    → ((x : X) → AscendsBy S (f x)) → ((x y : X) (a b : Y) → R x y → Contains (f x) a → Contains (f y) b → S a b) → AscendsBy S (flat_map f xs)
+    → ((x : X) → AscendsBy S (f x)) → ((x y : X) (a b : Y) → Contains xs x → Contains xs y → R x y → Contains (f x) a → Contains (f y) b → S a b)
+    → AscendsBy S (flat_map f xs)
 flat_map_ascends R S f [] a each before = tt
 flat_map_ascends R S f (x ∷ xs) a each before =
-    append_ascends S (f x) (flat_map f xs) (each x) (flat_map_ascends R S f xs a.1 each before) (λ v w c d.
+    let later = flat_map_ascends R S f xs a.1 each (λ y z v w i j. before y z v w (Contains-tail y x xs i) (Contains-tail z x xs j)) in
+    append_ascends S (f x) (flat_map f xs) (each x) later (λ v w c d.
     let from = Contains-flat_map f xs w d in
-    before x from.0 v w (a.0 from.0 from.1) c from.2)
+    before x from.0 v w (Contains-head x xs) (Contains-tail from.0 x xs from.1) (a.0 from.0 from.1) c from.2)
 
 pub map_ascends : {X Y : Type 0} (R : X → X → Type 0) (S : Y → Y → Type 0) (f : X → Y) (xs : List X)
     → ((x y : X) → Contains xs x → Contains xs y → R x y → S (f x) (f y)) → AscendsBy R xs → AscendsBy S (map f xs)
@@ -84,7 +86,7 @@ points_ascend [] = (λ y c. absurd (none_contained y c), tt)
 points_ascend (n ∷ sizes) =
     flat_map_ascends ComesFirst ComesFirst (λ rest. map (λ c. c ∷ rest) (numbers (4 * n - 3))) (quarter_points sizes) (points_ascend sizes)
     (λ rest. row_ascends rest 0 (4 * n - 3))
-    (λ p q v w e c d.
+    (λ p q v w i j e c d.
     let one = from_Contains-map (λ k. k ∷ p) (numbers (4 * n - 3)) v c in
     let other = from_Contains-map (λ k. k ∷ q) (numbers (4 * n - 3)) w d in
     subst (λ x. comes_first x w ≡ true) one.2 (subst (λ y. comes_first (one.0 ∷ p) y ≡ true) other.2 (first_by_rest one.0 other.0 p q e)))

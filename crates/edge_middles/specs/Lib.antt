@@ -5,4 +5,5 @@ pub mod MiddleTests
 pub mod Middles
 pub mod MovedEdges
 pub mod RowCounts
+pub mod RowLists
 pub mod WhatIsThere

@@ -4,7 +4,8 @@
 //! whole cubes; `HeldMiddles` says which midpoints the cells of a cube of a grid have; `GridMiddles` says at which
 //! midpoints a bipolar edge is there, and how many come before another; `WhatIsThere` says this by the samples and the
 //! cubes around; `RowCounts` says how the number grows along a row of midpoints and from a row to the next;
-//! `MeshMiddles` says by midpoints what a mesh is made of; `MiddleTests` has tests of one cube that compute.
+//! `RowLists` lists those that are there height by height and row by row; `MeshMiddles` says by midpoints what a mesh
+//! is made of; `MiddleTests` has tests of one cube that compute.
 //!
 //! In `proofs`: `MiddlesFound` computes them for each split; `CubeMiddles` says by it that the cells of one cube
 //! have an edge at each point of the cube that can be a midpoint, and at no other; `MovedMiddles` moves midpoints and
@@ -13,7 +14,8 @@
 //! the points of a grid in order, `PointsThere` goes from a midpoint that is there to an edge of a kept cell and back,
 //! `ListedEdges` lists the bipolar edges by midpoints, and `PlacesOfEdges` finds their places in the list; `KeptAround`
 //! and `WhatIsThere` go to the kept cubes and the samples; `RowCounts` and `NextRows` count the edges along a row and
-//! from a row to the next; `MeshMiddles` goes to vertices and simplices.
+//! from a row to the next; `RowLists` and `Heights` list them in these rows; `MeshMiddles` goes to vertices and
+//! simplices.
 #![tactic(auto)]
 
 ghost use Rattle.std.specs.Prelude.{ℕ, List, length};
@@ -23,11 +25,12 @@ ghost use Rattle.iso_model.specs.Dimensions.{IsDimension};
 ghost use Rattle.iso_model.specs.Tables.{Table};
 ghost use Rattle.iso_model.specs.Values.{Volume};
 ghost use Rattle.edge_middles.specs.GridMiddles.{AreByMiddles, HasPlace};
-ghost use Rattle.edge_middles.specs.HeldMiddles.{HasHeldMiddles};
+ghost use Rattle.edge_middles.specs.HeldMiddles.{AreMovedMiddles, HasHeldMiddles};
 ghost use Rattle.edge_middles.specs.RowCounts.{CountsCentres, CountsFirst, CountsCentre, CountsNone};
 ghost use Rattle.edge_middles.specs.RowCounts.{CountsPoints, CountsRows, CountsSame, CountsSamples};
 ghost use Rattle.edge_middles.specs.MeshMiddles.{AreBetweenHeights, CountsCellEdges, GoCubeByCube};
 ghost use Rattle.edge_middles.specs.MeshMiddles.{HasCountedSimplices, HasSimplicesByCubes, HasVerticesByMiddles};
+ghost use Rattle.edge_middles.specs.RowLists.{GoByCentres, GoRowByRow, HasAllBetween, HasNoneAtOdd, JoinsHeights};
 ghost use Rattle.edge_middles.specs.WhatIsThere.{IsHeldByKept, IsThereAtCentre, IsThereInRow, StandsWhereKept};
 ghost use Rattle.edge_middles.specs.Middles.{HasAllMiddles, HasEdgesAtMiddles};
 ghost use Rattle.edge_middles.specs.MovedEdges.{AreMovedEdges, HasGridEdgesAtMiddles, MovesEdges};
@@ -42,6 +45,7 @@ pub fn middles_law()
     ensures moved { (x middle : List ℕ) → MovesEdges x middle }
     ensures grids { (kind : Kind) (sizes : List ℕ) → HasDimension kind (length sizes) → AreMovedEdges kind sizes }
     ensures own { (kind : Kind) (sizes : List ℕ) → HasDimension kind (length sizes) → HasGridEdgesAtMiddles kind sizes }
+    ensures placed { (kind : Kind) (sizes : List ℕ) → HasDimension kind (length sizes) → AreMovedMiddles kind sizes }
     ensures held { (kind : Kind) (sizes : List ℕ) → HasDimension kind (length sizes) → HasHeldMiddles kind sizes }
 {}
 
@@ -85,4 +89,13 @@ pub fn mesh_law()
     ensures cell { (v : Volume) (t : Table) → HasDimension v.kind (length v.sizes) → HasCountedSimplices v t }
     ensures cubes { (v : Volume) → GoCubeByCube v }
     ensures simplices { (v : Volume) (t : Table) → HasDimension v.kind (length v.sizes) → HasSimplicesByCubes v t }
+{}
+
+/// The midpoints that are there go height by height, and at a height row by row, as a scan meets them.
+pub fn rows_law()
+    ensures rows { (v : Volume) (height : ℕ) → HasDimension v.kind (length v.sizes) → GoRowByRow v height }
+    ensures centres { (v : Volume) (height : ℕ) → HasDimension v.kind (length v.sizes) → GoByCentres v height }
+    ensures none { (v : Volume) (height : ℕ) → HasDimension v.kind (length v.sizes) → HasNoneAtOdd v height }
+    ensures joined { (v : Volume) → HasDimension v.kind (length v.sizes) → JoinsHeights v }
+    ensures all { (v : Volume) → HasDimension v.kind (length v.sizes) → HasAllBetween v }
 {}
