@@ -45,7 +45,7 @@ to_between v low high m there above below =
     let second : nat_lt (middle_height v m) high ≡ true = of_lt (middle_height v m) high below in
     Contains-filtered (λ n. nat_le low (middle_height v n) && nat_lt (middle_height v n) high) (middles_there v) m (λ i. first i && second i) there
 
-by_last : (last : ℕ) (p q : List ℕ) → length p ≡ suc last → length q ≡ suc last → slice_index p last < slice_index q last → comes_first p q ≡ true
+pub by_last : (last : ℕ) (p q : List ℕ) → length p ≡ suc last → length q ≡ suc last → slice_index p last < slice_index q last → comes_first p q ≡ true
 by_last last [] q long wide less = absurd (omega (arith, long))
 by_last last (x ∷ p) [] long wide less = absurd (omega (arith, wide))
 by_last zero (x ∷ []) (y ∷ []) long wide less = first_by_head x y [] less

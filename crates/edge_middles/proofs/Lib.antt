@@ -6,6 +6,7 @@ pub mod HeldPoints
 pub mod KeptAround
 pub mod ListedEdges
 pub mod MeshMiddles
+pub mod MiddleVertices
 pub mod MiddlesFound
 pub mod MovedMiddles
 pub mod NextRows

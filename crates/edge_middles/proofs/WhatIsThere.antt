@@ -5,7 +5,7 @@ use Rattle.std.proofs.lemmas.Bool.Decides.{nat_tests}
 use Rattle.std.proofs.lemmas.Int.{ints}
 use Rattle.std.proofs.lemmas.List.Sums.{sum_by-cons}
 use Rattle.std.specs.List.{list_all, list_any}
-use Rattle.std.specs.Prelude.{Bool, List, [], ◌∷◌, cond, false, true, int_le, length, map, nat_lt, pos, ℕ, ℤ, ◌*ℤ◌}
+use Rattle.std.specs.Prelude.{suc, Bool, List, [], ◌∷◌, cond, false, true, int_le, length, map, nat_lt, pos, ℕ, ℤ, ◌*ℤ◌}
 use Rattle.std.specs.Prelude.{◌*◌, ◌+◌, ◌/◌, ◌%◌, ◌≤◌, ◌&&◌, ◌||◌, ◌==◌, ◌≡◌, if◌then◌else◌}
 use Rattle.iso_model.specs.declared.Kind.{Kind}
 use Rattle.iso_model.specs.declared.Kind.TheVariants.{Cube, Simplex, Pyramid}
@@ -43,25 +43,39 @@ doubles_even (c ∷ xs) f =
 halves : (xs : List ℕ) (f g : ℕ → ℕ) → ((c : ℕ) → f c / 2 ≡ g c) → map (λ c. c / 2) (map f xs) ≡ map g xs
 halves xs f g half = map-map f (λ c. c / 2) xs ∙ map_same (λ c. f c / 2) g xs (λ c i. half c)
 
-sample_sign : (v : Volume) (f : ℕ → ℕ) (m : List ℕ) → positive_at v (map (λ c. 2 * f c) m) ≡ is_above_at v (map f m)
+-- the value of a sample's point
+pub sample_value : (v : Volume) (f : ℕ → ℕ) (m : List ℕ)
+    → value_at v.sizes v.samples (map (λ c. 2 * f c) m) ≡ pos 8 *ℤ sample_at v.sizes v.samples (map f m)
 unfolding value_at
-sample_sign v f m =
+sample_value v f m =
     let even = doubles_even m f in
     let half = halves m (λ c. 2 * f c) f (λ c. omega arith) in
-    (λ i. is_positive v.iso (if even i then pos 8 *ℤ sample_at v.sizes v.samples (half i) else total (cube_samples v.sizes v.samples (half i))))
-    ∙ same_eighths v.iso (sample_at v.sizes v.samples (map f m))
+    λ i. if even i then pos 8 *ℤ sample_at v.sizes v.samples (half i) else total (cube_samples v.sizes v.samples (half i))
+
+sample_sign : (v : Volume) (f : ℕ → ℕ) (m : List ℕ) → positive_at v (map (λ c. 2 * f c) m) ≡ is_above_at v (map f m)
+sample_sign v f m = ap (is_positive v.iso) (sample_value v f m) ∙ same_eighths v.iso (sample_at v.sizes v.samples (map f m))
 
 odd_first : (c : ℕ) (m : List ℕ) → list_all (λ k. k % 2 == 0) (map (λ k. 2 * (k / 4) + 1) (c ∷ m)) ≡ false
 odd_first c m =
     let odd : (2 * (c / 4) + 1) % 2 ≡ 1 = omega arith in
     λ i. (odd i == 0) && list_all (λ k. k % 2 == 0) (map (λ k. 2 * (k / 4) + 1) m)
 
-centre_sign : (v : Volume) (c : ℕ) (m : List ℕ) → positive_at v (map (λ k. 2 * (k / 4) + 1) (c ∷ m)) ≡ is_centre_above v (sample_below (c ∷ m))
+-- the value of a cube's centre
+centre_total : (v : Volume) (c : ℕ) (m : List ℕ)
+    → value_at v.sizes v.samples (map (λ k. 2 * (k / 4) + 1) (c ∷ m)) ≡ total (cube_samples v.sizes v.samples (sample_below (c ∷ m)))
 unfolding value_at
-centre_sign v c m =
+centre_total v c m =
     let odd = odd_first c m in
     let half = halves (c ∷ m) (λ k. 2 * (k / 4) + 1) (λ k. k / 4) (λ k. omega arith) in
-    λ i. is_positive v.iso (if odd i then pos 8 *ℤ sample_at v.sizes v.samples (half i) else total (cube_samples v.sizes v.samples (half i)))
+    λ i. if odd i then pos 8 *ℤ sample_at v.sizes v.samples (half i) else total (cube_samples v.sizes v.samples (half i))
+
+pub centre_value_is : (v : Volume) (m : List ℕ) (last : ℕ) → length m ≡ suc last
+    → value_at v.sizes v.samples (map (λ k. 2 * (k / 4) + 1) m) ≡ total (cube_samples v.sizes v.samples (sample_below m))
+centre_value_is v [] last long = absurd (omega (arith, long))
+centre_value_is v (c ∷ m) last long = centre_total v c m
+
+centre_sign : (v : Volume) (c : ℕ) (m : List ℕ) → positive_at v (map (λ k. 2 * (k / 4) + 1) (c ∷ m)) ≡ is_centre_above v (sample_below (c ∷ m))
+centre_sign v c m = ap (is_positive v.iso) (centre_total v c m)
 
 -- ---- edges
 
@@ -157,6 +171,10 @@ there_in_row v rest x fits row even =
 
 odd_at : (c : ℕ) (rest : List ℕ) → c % 2 ≡ 1 → joins_centre rest ≡ true → joins_centre (c ∷ rest) ≡ true
 odd_at c rest odd all = λ i. (odd i == 1) && all i
+
+-- a point at odd coordinates is none between samples
+pub no_samples_in : (m : List ℕ) (last : ℕ) → joins_centre m ≡ true → length m ≡ suc last → joins_samples m ≡ false
+no_samples_in m last odd long = false_from_ne_true (joins_samples m) (λ even. even_and_odd m (omega (arith, long)) even odd)
 
 no_samples : (c : ℕ) (rest : List ℕ) → c % 2 ≡ 1 → joins_samples (c ∷ rest) ≡ false
 no_samples c rest odd = λ i. (odd i == 0) && joins_samples rest

@@ -2,6 +2,7 @@ pub mod GridMiddles
 pub mod HeldMiddles
 pub mod MeshMiddles
 pub mod MiddleTests
+pub mod MiddleVertices
 pub mod Middles
 pub mod MovedEdges
 pub mod RowCounts

@@ -4,8 +4,8 @@
 //! whole cubes; `HeldMiddles` says which midpoints the cells of a cube of a grid have; `GridMiddles` says at which
 //! midpoints a bipolar edge is there, and how many come before another; `WhatIsThere` says this by the samples and the
 //! cubes around; `RowCounts` says how the number grows along a row of midpoints and from a row to the next;
-//! `RowLists` lists those that are there height by height and row by row; `MeshMiddles` says by midpoints what a mesh
-//! is made of; `MiddleTests` has tests of one cube that compute.
+//! `RowLists` lists those that are there height by height and row by row; `MiddleVertices` says where the edge at a
+//! midpoint is crossed, and `MeshMiddles` what a mesh is made of; `MiddleTests` has tests of one cube that compute.
 //!
 //! In `proofs`: `MiddlesFound` computes them for each split; `CubeMiddles` says by it that the cells of one cube
 //! have an edge at each point of the cube that can be a midpoint, and at no other; `MovedMiddles` moves midpoints and
@@ -14,8 +14,8 @@
 //! the points of a grid in order, `PointsThere` goes from a midpoint that is there to an edge of a kept cell and back,
 //! `ListedEdges` lists the bipolar edges by midpoints, and `PlacesOfEdges` finds their places in the list; `KeptAround`
 //! and `WhatIsThere` go to the kept cubes and the samples; `RowCounts` and `NextRows` count the edges along a row and
-//! from a row to the next; `RowLists` and `Heights` list them in these rows; `MeshMiddles` goes to vertices and
-//! simplices.
+//! from a row to the next; `RowLists` and `Heights` list them in these rows; `MiddleVertices` goes to vertices, and
+//! `MeshMiddles` to meshes.
 #![tactic(auto)]
 
 ghost use Rattle.std.specs.Prelude.{ℕ, List, length};
@@ -32,6 +32,7 @@ ghost use Rattle.edge_middles.specs.MeshMiddles.{AreBetweenHeights, CountsCellEd
 ghost use Rattle.edge_middles.specs.MeshMiddles.{HasCountedSimplices, HasSimplicesByCubes, HasVerticesByMiddles};
 ghost use Rattle.edge_middles.specs.RowLists.{GoByCentres, GoRowByRow, HasAllBetween, HasNoneAtOdd, JoinsHeights};
 ghost use Rattle.edge_middles.specs.WhatIsThere.{IsHeldByKept, IsThereAtCentre, IsThereInRow, StandsWhereKept};
+ghost use Rattle.edge_middles.specs.MiddleVertices.{HasVertexAlong, HasVertexToCentre};
 ghost use Rattle.edge_middles.specs.Middles.{HasAllMiddles, HasEdgesAtMiddles};
 ghost use Rattle.edge_middles.specs.MovedEdges.{AreMovedEdges, HasGridEdgesAtMiddles, MovesEdges};
 
@@ -79,12 +80,15 @@ pub fn counts_law()
     ensures none { (v : Volume) (n : ℕ) → CountsNone v n }
 {}
 
-/// What a mesh is made of, by midpoints: the edges between two heights, the vertices, and the simplices, whose edges
-/// have the numbers of midpoints before their own; the kept cells go cube by cube, and cubes whose cells have empty
-/// entries may be passed over.
+/// What a mesh is made of, by midpoints: the edges between two heights, the vertices, each by the samples at the ends
+/// of its edge, in millionths of a step from sample to sample, and the simplices, whose edges have the numbers of
+/// midpoints before their own; the kept cells go cube by cube, and cubes whose cells have empty entries may be passed
+/// over.
 pub fn mesh_law()
     ensures heights { (v : Volume) → HasDimension v.kind (length v.sizes) → AreBetweenHeights v }
     ensures vertices { (v : Volume) (t : Table) → HasDimension v.kind (length v.sizes) → HasVerticesByMiddles v t }
+    ensures along { (v : Volume) (middle : List ℕ) → HasVertexAlong v middle }
+    ensures to_centre { (v : Volume) (middle : List ℕ) (last : ℕ) → HasVertexToCentre v middle last }
     ensures edges { (v : Volume) → HasDimension v.kind (length v.sizes) → CountsCellEdges v }
     ensures cell { (v : Volume) (t : Table) → HasDimension v.kind (length v.sizes) → HasCountedSimplices v t }
     ensures cubes { (v : Volume) → GoCubeByCube v }
