@@ -80,16 +80,15 @@ all_at_middles : (kind : Kind) (d : ℕ) → IsDimension d → HasDimension kind
 all_at_middles = of_each_cell (λ kind d. edges_at_middles kind d ≡ true) squares_at_middles cubes_at_middles hypercubes_at_middles triangles_at_middles
     tetrahedra_at_middles four_simplices_at_middles pyramids_at_middles
 
-pub edges_equal : (a b : Edge) → same_edge a b ≡ true → a ≡ b
-edges_equal a b t =
-    let low = lists_equal a.low b.low (and_left (same_list a.low b.low) (same_list a.high b.high) t) in
-    let high = lists_equal a.high b.high (and_right (same_list a.low b.low) (same_list a.high b.high) t) in
-    λ i. record { low = low i; high = high i }
-
 pub edges_there : (kind : Kind) (d : ℕ) → IsDimension d → HasDimension kind d → HasEdgesAtMiddles kind d
 edges_there kind d is fits rank e low few =
     let by_rank = all_In (λ r. list_all (λ n. same_edge (edge_at (midpoint (edge_from kind d r n))) (edge_from kind d r n)) (numbers (edge_count kind d)))
     (numbers (cells_per_cube kind d)) (all_at_middles kind d is fits) rank (In-numbers (cells_per_cube kind d) rank low) in
-    edges_equal (edge_at (midpoint (edge_from kind d rank e))) (edge_from kind d rank e)
-    (all_In (λ n. same_edge (edge_at (midpoint (edge_from kind d rank n))) (edge_from kind d rank n)) (numbers (edge_count kind d)) by_rank e
-    (In-numbers (edge_count kind d) e few))
+    let found : Edge = edge_at (midpoint (edge_from kind d rank e)) in
+    let own : Edge = edge_from kind d rank e in
+    let same : same_edge found own ≡ true =
+    all_In (λ n. same_edge (edge_at (midpoint (edge_from kind d rank n))) (edge_from kind d rank n)) (numbers (edge_count kind d)) by_rank e
+    (In-numbers (edge_count kind d) e few) in
+    let low = lists_equal found.low own.low (and_left (same_list found.low own.low) (same_list found.high own.high) same) in
+    let high = lists_equal found.high own.high (and_right (same_list found.low own.low) (same_list found.high own.high) same) in
+    λ i. record { low = low i; high = high i }

@@ -116,7 +116,7 @@ no_members : (ms : List (List ℕ)) → ((m : List ℕ) → Contains ms m → �
 no_members [] none = refl
 no_members (m ∷ ms) none = absurd (none m (Contains-head m ms))
 
-at_samples : (kind : Kind) (m : List ℕ) → kind ≢ Pyramid → is_middle kind m ≡ true → HaveParity 0 m
+pub at_samples : (kind : Kind) (m : List ℕ) → kind ≢ Pyramid → is_middle kind m ≡ true → HaveParity 0 m
 at_samples Cube m other e = and_left (joins_samples m) (axes_along m == 1) e
 at_samples Simplex m other e = and_left (joins_samples m) (nat_lt 0 (axes_along m)) e
 at_samples Pyramid m other e = absurd (other refl)

@@ -1,4 +1,5 @@
 pub mod CubeMiddles
+pub mod FewMiddles
 pub mod GridEdges
 pub mod GridMidpoints
 pub mod Heights

@@ -5,8 +5,8 @@ use Rattle.std.specs.Prelude.{Bool, Contains, List, [], ◌∷◌, cond, count_b
 use Rattle.std.specs.List.{position_or_len}
 use Rattle.iso_model.specs.Cells.{HasDimension}
 use Rattle.iso_model.specs.Dimensions.{IsDimension}
-use Rattle.iso_model.specs.Points.{comes_first}
-use Rattle.iso_model.specs.Splits.{midpoint}
+use Rattle.iso_model.specs.Points.{comes_first, plus}
+use Rattle.iso_model.specs.Splits.{Edge, midpoint}
 use Rattle.iso_model.specs.Values.{Volume}
 use Rattle.iso_model.specs.Bipolar.{place_in, same_edge}
 use Rattle.iso_model.proofs.OrderLaws.{comes_first-irreflexive, comes_first-trans}
@@ -14,11 +14,12 @@ use Rattle.iso_model.proofs.SignLaws.{edge_itself}
 use Rattle.lists.specs.Members.{AscendsBy}
 use Rattle.lists.proofs.Contained.{Contains-head, Contains-split, Contains-tail, none_contained}
 use Rattle.lists.proofs.Counts.{count_none}
-use Rattle.lists.proofs.MemberLaws.{Contains_from}
+use Rattle.lists.specs.Orders.{same_list}
+use Rattle.lists.proofs.MemberLaws.{Contains_from, lists_equal}
+use Rattle.lists.proofs.Tests.{and_left, and_right}
 use Rattle.lists.proofs.Sorting.{bit, count_by-cons}
 use Rattle.edge_middles.specs.Middles.{edge_at}
 use Rattle.edge_middles.specs.GridMiddles.{HasPlace, middles_there}
-use Rattle.edge_middles.proofs.CubeMiddles.{edges_equal}
 use Rattle.edge_middles.proofs.ListedEdges.{by_middles, own_there, there_ascend}
 use Rattle.edge_middles.proofs.OrderedPoints.{ComesFirst}
 use Rattle.edge_middles.proofs.PointsThere.{member_there}
@@ -28,6 +29,13 @@ first_place t n e = ap (λ b. cond (not b) (1 + n) 0) e
 
 later_place : (t : Bool) (n : ℕ) → t ≡ false → cond (not t) (1 + n) 0 ≡ 1 + n
 later_place t n e = ap (λ b. cond (not b) (1 + n) 0) e
+
+-- edges with the same ends have the same midpoint
+same_midpoint : (a b : Edge) → same_edge a b ≡ true → midpoint a ≡ midpoint b
+same_midpoint a b t =
+    let low = lists_equal a.low b.low (and_left (same_list a.low b.low) (same_list a.high b.high) t) in
+    let high = lists_equal a.high b.high (and_right (same_list a.low b.low) (same_list a.high b.high) t) in
+    λ i. plus (low i) (high i)
 
 module _ (m : List ℕ) where
   -- in an ascending list of midpoints the place of the edge at a member is the number of members before it
@@ -49,7 +57,7 @@ module _ (m : List ℕ) where
         | inr later ↦
             let before : comes_first x m ≡ true = a.0 m later in
             let apart : same_edge (edge_at m) (edge_at x) ≡ false = false_from_ne_true (same_edge (edge_at m) (edge_at x)) (λ t.
-            let same : m ≡ x = sym (own m (Contains-tail m x ms later)) ∙ ap midpoint (edges_equal (edge_at m) (edge_at x) t)
+            let same : m ≡ x = sym (own m (Contains-tail m x ms later)) ∙ same_midpoint (edge_at m) (edge_at x) t
             ∙ own x (Contains-head x ms) in
             comes_first-irreflexive m (subst (λ z. comes_first z m ≡ true) (sym same) before)) in
             let rest = place_there ms a.1 (λ y d. own y (Contains-tail y x ms d)) later in

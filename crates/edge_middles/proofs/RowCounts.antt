@@ -26,7 +26,8 @@ use Rattle.iso_model.specs.Bipolar.{is_bipolar}
 use Rattle.edge_middles.specs.HeldMiddles.{holds}
 use Rattle.edge_middles.specs.Middles.{axes_along, edge_at, is_middle, joins_centre, joins_samples}
 use Rattle.edge_middles.specs.GridMiddles.{count_before, is_there, kept_cubes, middles_there}
-use Rattle.edge_middles.specs.RowCounts.{CountsCentres, CountsFirst, CountsCentre, CountsNone, CountsPoints, CountsSamples, CountsSame, IsRowOfMiddles}
+use Rattle.edge_middles.specs.RowCounts.{CountsCentres, CountsFirst, CountsCentre, CountsNext}
+use Rattle.edge_middles.specs.RowCounts.{CountsNone, CountsPoints, CountsSamples, CountsSame, IsRowOfMiddles}
 use Rattle.edge_middles.proofs.ListedEdges.{there_ascend, there_is}
 use Rattle.edge_middles.proofs.OrderedPoints.{ComesFirst}
 use Rattle.edge_middles.proofs.PointsThere.{member_there}
@@ -154,7 +155,7 @@ module _ (v : Volume) (rest : List ℕ) (some : 1 ≤ length rest) (row : IsRowO
         let none = one_more (4 * x + 1) (4 * x + 2) false (omega arith) (none_odd v (4 * x + 1) rest some even (omega arith)) in
         omega (arith, at, none)
 
-    next_sample : (x y : ℕ) → y ≡ 4 * x + 4 → count_before v (y ∷ rest)
+    pub next_sample : (x y : ℕ) → y ≡ 4 * x + 4 → count_before v (y ∷ rest)
         ≡ count_before v (4 * x ∷ rest) + bit (is_there v (4 * x ∷ rest)) + bit (is_there v ((4 * x + 2) ∷ rest))
     next_sample x y next =
         let at = one_more (4 * x + 2) (4 * x + 3) (is_there v ((4 * x + 2) ∷ rest)) (omega arith) refl in
@@ -227,6 +228,9 @@ counts_samples v rest fits row even = samples v rest (some_rest v rest fits row)
 
 pub counts_first : (v : Volume) (rest : List ℕ) → HasDimension v.kind (length v.sizes) → CountsFirst v rest
 counts_first v rest fits row even = first_sample v rest (some_rest v rest fits row) row even
+
+pub counts_next : (v : Volume) (rest : List ℕ) → HasDimension v.kind (length v.sizes) → CountsNext v rest
+counts_next v rest fits row even x = next_sample v rest (some_rest v rest fits row) row even x (4 * (x + 1)) (omega arith)
 
 pub counts_centres : (v : Volume) (rest : List ℕ) → HasDimension v.kind (length v.sizes) → CountsCentres v rest
 counts_centres v rest fits row odd = centres v rest (some_rest v rest fits row) row odd

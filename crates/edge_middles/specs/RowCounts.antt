@@ -1,10 +1,10 @@
 -- How the number of edges before a midpoint grows along a row of midpoints, and from a row to the next.
 -- A row is given by the coordinates of its midpoints along the axes after the first.
-use Rattle.std.specs.Prelude.{ℕ, suc, ◌*◌, ◌+◌, ◌-◌, ◌≤◌, ◌≡◌, ◌⊎◌, true, List, [], ◌∷◌, length, slice_index, drop, replicate, count_by, nat_lt}
+use Rattle.std.specs.Prelude.{ℕ, suc, ◌*◌, ◌+◌, ◌-◌, ◌^◌, ◌≤◌, ◌≡◌, ◌⊎◌, true, List, [], ◌∷◌, length, slice_index, drop, replicate, count_by, nat_lt}
 use Rattle.std.specs.Prelude.{if◌then◌else◌}
 use Rattle.lists.specs.Orders.{numbers}
 use Rattle.iso_model.specs.Points.{comes_first}
-use Rattle.iso_model.specs.Values.{Volume}
+use Rattle.iso_model.specs.Values.{Volume, product}
 use Rattle.edge_middles.specs.Middles.{joins_centre, joins_samples}
 use Rattle.edge_middles.specs.GridMiddles.{count_before, is_there}
 
@@ -28,6 +28,12 @@ CountsSamples v rest = IsRowOfMiddles v rest → joins_samples rest ≡ true
 abbrev pub CountsFirst : Volume → List ℕ → Type 0
 CountsFirst v rest = IsRowOfMiddles v rest → joins_samples rest ≡ true
     → (x : ℕ) → count_before v ((4 * x + 2) ∷ rest) ≡ count_before v (4 * x ∷ rest) + (if is_there v (4 * x ∷ rest) then 1 else 0)
+
+-- before 4 (x + 1) are those before 4x and the two there at place x
+abbrev pub CountsNext : Volume → List ℕ → Type 0
+CountsNext v rest = IsRowOfMiddles v rest → joins_samples rest ≡ true
+    → (x : ℕ) → count_before v (4 * (x + 1) ∷ rest) ≡ count_before v (4 * x ∷ rest)
+    + (if is_there v (4 * x ∷ rest) then 1 else 0) + (if is_there v ((4 * x + 2) ∷ rest) then 1 else 0)
 
 -- in a row of edges to centres there are edges at 4x + 1 and at 4x + 3 alone
 abbrev pub CountsCentres : Volume → List ℕ → Type 0
@@ -62,3 +68,7 @@ CountsSame v p q = ((m : List ℕ) → length m ≡ length v.sizes → is_there 
 -- before the first point there is none
 abbrev pub CountsNone : Volume → ℕ → Type 0
 CountsNone v n = count_before v (replicate n 0) ≡ 0
+
+-- in a grid of at most 2^27 samples there are at most 2^31 midpoints before any
+abbrev pub CountsFew : Volume → List ℕ → Type 0
+CountsFew v middle = product v.sizes ≤ 2 ^ 27 → count_before v middle ≤ 2 ^ 31

@@ -14,8 +14,8 @@
 //! the points of a grid in order, `PointsThere` goes from a midpoint that is there to an edge of a kept cell and back,
 //! `ListedEdges` lists the bipolar edges by midpoints, and `PlacesOfEdges` finds their places in the list; `KeptAround`
 //! and `WhatIsThere` go to the kept cubes and the samples; `RowCounts` and `NextRows` count the edges along a row and
-//! from a row to the next; `RowLists` and `Heights` list them in these rows; `MiddleVertices` goes to vertices, and
-//! `MeshMiddles` to meshes.
+//! from a row to the next, and `FewMiddles` all of them; `RowLists` and `Heights` list them in these rows;
+//! `MiddleVertices` goes to vertices, and `MeshMiddles` to meshes.
 #![tactic(auto)]
 
 ghost use Rattle.std.specs.Prelude.{ℕ, List, length};
@@ -26,8 +26,8 @@ ghost use Rattle.iso_model.specs.Tables.{Table};
 ghost use Rattle.iso_model.specs.Values.{Volume};
 ghost use Rattle.edge_middles.specs.GridMiddles.{AreByMiddles, HasPlace};
 ghost use Rattle.edge_middles.specs.HeldMiddles.{AreMovedMiddles, HasHeldMiddles};
-ghost use Rattle.edge_middles.specs.RowCounts.{CountsCentres, CountsFirst, CountsCentre, CountsNone};
-ghost use Rattle.edge_middles.specs.RowCounts.{CountsPoints, CountsRows, CountsSame, CountsSamples};
+ghost use Rattle.edge_middles.specs.RowCounts.{CountsCentre, CountsCentres, CountsFew, CountsFirst, CountsNext};
+ghost use Rattle.edge_middles.specs.RowCounts.{CountsNone, CountsPoints, CountsRows, CountsSame, CountsSamples};
 ghost use Rattle.edge_middles.specs.MeshMiddles.{AreBetweenHeights, CountsCellEdges, GoCubeByCube};
 ghost use Rattle.edge_middles.specs.MeshMiddles.{HasCountedSimplices, HasSimplicesByCubes, HasVerticesByMiddles};
 ghost use Rattle.edge_middles.specs.RowLists.{GoByCentres, GoRowByRow, HasAllBetween, HasNoneAtOdd, JoinsHeights};
@@ -68,16 +68,19 @@ pub fn there_law()
 {}
 
 /// Along a row of midpoints the number of edges before a point grows by those that are there; no edge stands between
-/// the end of a row and the row after it, and none before the first point.
+/// the end of a row and the row after it, and none before the first point. In a grid of at most 2^27 samples it is at
+/// most 2^31.
 pub fn counts_law()
     ensures points { (v : Volume) (rest : List ℕ) → CountsPoints v rest }
     ensures samples { (v : Volume) (rest : List ℕ) → HasDimension v.kind (length v.sizes) → CountsSamples v rest }
     ensures first { (v : Volume) (rest : List ℕ) → HasDimension v.kind (length v.sizes) → CountsFirst v rest }
+    ensures next { (v : Volume) (rest : List ℕ) → HasDimension v.kind (length v.sizes) → CountsNext v rest }
     ensures centres { (v : Volume) (rest : List ℕ) → HasDimension v.kind (length v.sizes) → CountsCentres v rest }
     ensures first_centre { (v : Volume) (rest : List ℕ) → HasDimension v.kind (length v.sizes) → CountsCentre v rest }
     ensures rows { (v : Volume) (rest : List ℕ) → HasDimension v.kind (length v.sizes) → CountsRows v rest }
     ensures same { (v : Volume) (p q : List ℕ) → CountsSame v p q }
     ensures none { (v : Volume) (n : ℕ) → CountsNone v n }
+    ensures few { (v : Volume) (middle : List ℕ) → HasDimension v.kind (length v.sizes) → CountsFew v middle }
 {}
 
 /// What a mesh is made of, by midpoints: the edges between two heights, the vertices, each by the samples at the ends
