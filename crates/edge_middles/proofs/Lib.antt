@@ -13,6 +13,7 @@ pub mod MovedMiddles
 pub mod NextRows
 pub mod OrderedPoints
 pub mod PlacesOfEdges
+pub mod PlainCubes
 pub mod PointsThere
 pub mod RowCounts
 pub mod RowLists

@@ -78,7 +78,7 @@ counts_cell_edges v fits dim cell e c few bipolar =
     (there, ap (place_in (bipolar_edges v)) (sym own) ∙ has_place v fits dim m (held_by_cube v.kind v.sizes fits dim cell e inside few).0 there)
 
 -- an edge of a cell is bipolar where it is in the cell's label
-bipolar_by_label : (v : Volume) → HasDimension v.kind (length v.sizes) → IsDimension (length v.sizes) → (cell e : ℕ)
+pub bipolar_by_label : (v : Volume) → HasDimension v.kind (length v.sizes) → IsDimension (length v.sizes) → (cell e : ℕ)
     → e < edge_count v.kind (length v.sizes) → is_bipolar v (edge v.kind v.sizes cell e) ≡ is_bipolar_in v.kind (length v.sizes) (label_of v cell) e
 bipolar_by_label v fits dim cell e few =
     let d : ℕ = length v.sizes in
@@ -90,7 +90,7 @@ bipolar_by_label v fits dim cell e few =
     either_order v (corner v.kind v.sizes cell first) (corner v.kind v.sizes cell second) ∙ (λ i. differ (sym low i) (sym high i))
 
 -- the edges of the tuples of an entry
-entry_edges : (v : Volume) (t : Table) (cell : ℕ) → HasBipolarEntry v t cell → (w : List ℕ) → In w (entry_of t (label_of v cell)) → (e : ℕ) → In e w
+pub entry_edges : (v : Volume) (t : Table) (cell : ℕ) → HasBipolarEntry v t cell → (w : List ℕ) → In w (entry_of t (label_of v cell)) → (e : ℕ) → In e w
     → (e < edge_count v.kind (length v.sizes)) × (is_bipolar_in v.kind (length v.sizes) (label_of v cell) e ≡ true)
 entry_edges v t cell h w i e j =
     let d : ℕ = length v.sizes in

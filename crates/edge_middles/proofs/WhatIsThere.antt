@@ -79,13 +79,13 @@ centre_sign v c m = ap (is_positive v.iso) (centre_total v c m)
 
 -- ---- edges
 
-bipolar_samples : (v : Volume) (m : List ℕ) → joins_samples m ≡ true
+pub bipolar_samples : (v : Volume) (m : List ℕ) → joins_samples m ≡ true
     → is_bipolar v (edge_at m) ≡ differ (is_above_at v (sample_below m)) (is_above_at v (sample_above m))
 bipolar_samples v m even =
     ap (λ t. is_bipolar v (if t then sample_edge m else centre_edge m)) even
     ∙ (λ i. differ (sample_sign v (λ c. c / 4) m i) (sample_sign v (λ c. (c + 2) / 4) m i))
 
-bipolar_centre : (v : Volume) (c : ℕ) (m : List ℕ) → joins_samples (c ∷ m) ≡ false
+pub bipolar_centre : (v : Volume) (c : ℕ) (m : List ℕ) → joins_samples (c ∷ m) ≡ false
     → is_bipolar v (edge_at (c ∷ m)) ≡ differ (is_centre_above v (sample_below (c ∷ m))) (is_above_at v (corner_by (c ∷ m)))
 bipolar_centre v c m odd =
     let p : List ℕ = map (λ k. 2 * ((k + 1) / 4)) (c ∷ m) in

@@ -5,6 +5,7 @@ pub mod MiddleTests
 pub mod MiddleVertices
 pub mod Middles
 pub mod MovedEdges
+pub mod PlainCubes
 pub mod RowCounts
 pub mod RowLists
 pub mod WhatIsThere

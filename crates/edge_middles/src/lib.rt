@@ -5,7 +5,8 @@
 //! midpoints a bipolar edge is there, and how many come before another; `WhatIsThere` says this by the samples and the
 //! cubes around; `RowCounts` says how the number grows along a row of midpoints and from a row to the next;
 //! `RowLists` lists those that are there height by height and row by row; `MiddleVertices` says where the edge at a
-//! midpoint is crossed, and `MeshMiddles` what a mesh is made of; `MiddleTests` has tests of one cube that compute.
+//! midpoint is crossed, and `MeshMiddles` what a mesh is made of; `PlainCubes` leaves out the cubes whose corners have
+//! one sign; `MiddleTests` has tests of one cube that compute.
 //!
 //! In `proofs`: `MiddlesFound` computes them for each split; `CubeMiddles` says by it that the cells of one cube
 //! have an edge at each point of the cube that can be a midpoint, and at no other; `MovedMiddles` moves midpoints and
@@ -15,7 +16,7 @@
 //! `ListedEdges` lists the bipolar edges by midpoints, and `PlacesOfEdges` finds their places in the list; `KeptAround`
 //! and `WhatIsThere` go to the kept cubes and the samples; `RowCounts` and `NextRows` count the edges along a row and
 //! from a row to the next, and `FewMiddles` all of them; `RowLists` and `Heights` list them in these rows;
-//! `MiddleVertices` goes to vertices, and `MeshMiddles` to meshes.
+//! `MiddleVertices` goes to vertices, `MeshMiddles` to meshes, and `PlainCubes` to cubes that add nothing.
 #![tactic(auto)]
 
 ghost use Rattle.std.specs.Prelude.{ℕ, List, length};
@@ -30,6 +31,7 @@ ghost use Rattle.edge_middles.specs.RowCounts.{CountsCentre, CountsCentres, Coun
 ghost use Rattle.edge_middles.specs.RowCounts.{CountsNone, CountsPoints, CountsRows, CountsSame, CountsSamples};
 ghost use Rattle.edge_middles.specs.MeshMiddles.{AreBetweenHeights, CountsCellEdges, GoCubeByCube};
 ghost use Rattle.edge_middles.specs.MeshMiddles.{HasCountedSimplices, HasSimplicesByCubes, HasVerticesByMiddles};
+ghost use Rattle.edge_middles.specs.PlainCubes.{HasEmptyEntries, HasNoBipolarEdge};
 ghost use Rattle.edge_middles.specs.RowLists.{GoByCentres, GoRowByRow, HasAllBetween, HasNoneAtOdd, JoinsHeights};
 ghost use Rattle.edge_middles.specs.WhatIsThere.{IsHeldByKept, IsThereAtCentre, IsThereInRow, StandsWhereKept};
 ghost use Rattle.edge_middles.specs.MiddleVertices.{HasVertexAlong, HasVertexToCentre};
@@ -105,4 +107,11 @@ pub fn rows_law()
     ensures none { (v : Volume) (height : ℕ) → HasDimension v.kind (length v.sizes) → HasNoneAtOdd v height }
     ensures joined { (v : Volume) → HasDimension v.kind (length v.sizes) → JoinsHeights v }
     ensures all { (v : Volume) → HasDimension v.kind (length v.sizes) → HasAllBetween v }
+{}
+
+/// The cells of a cube whose corners all have one sign have no bipolar edge, and so they have no simplices: their
+/// entries are empty.
+pub fn plain_law()
+    ensures edges { (v : Volume) → HasDimension v.kind (length v.sizes) → HasNoBipolarEdge v }
+    ensures entries { (v : Volume) (t : Table) → HasDimension v.kind (length v.sizes) → HasEmptyEntries v t }
 {}
