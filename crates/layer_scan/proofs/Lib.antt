@@ -1,3 +1,4 @@
 pub mod WordTests
 pub mod CornerRows
 pub mod PlaneRowSteps
+pub mod EdgeWordSteps

@@ -1,2 +1,4 @@
 pub mod Corners
 pub mod CubePlanes
+pub mod RowsOfEdges
+pub mod Directions

@@ -2,7 +2,8 @@
 
 ghost use Rattle.std.specs.Prelude.{ℕ, ◌<◌, length};
 ghost use Rattle.bit_rows.specs.Rows.{IsWordOf};
-ghost use Rattle.layer_scan.specs.Corners.{HaveCorners, all_four, every_corner, mixed_corners, some_corner, some_of_four};
+ghost use Rattle.layer_scan.specs.Corners.{HaveCorners, all_four, every_corner};
+ghost use Rattle.layer_scan.specs.Corners.{mixed_corners, some_corner, some_of_four};
 
 use bit_rows::down;
 use grid_rows::{BitPlane, CubeRow};

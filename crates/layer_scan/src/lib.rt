@@ -1,8 +1,12 @@
 //! The bipolar edges of a grid and their numbers, layer by layer, by rows of bits.
 //!
-//! A layer is what lies between two slices of the last axis. Of each slice a bit is kept for each sample, and of each
-//! layer one for each cube.
+//! A layer is what lies between two slices of the last axis. Of each slice a bit is kept for each sample: whether it is
+//! at least the isovalue; of each layer one for each cube: whether it is kept. The bipolar edges in a row are where two
+//! such rows of signs, one of them moved by a place, differ and a kept cube is at the edge; the number of an edge is what
+//! was counted before its word, and the bits before it there.
 #![tactic(auto)]
 
 mod corners;
 mod kept;
+mod kinds;
+mod rows;

@@ -11,13 +11,16 @@ pub loop-number-init : goal.loop-number-init
 loop-number-init c = record { shape = c.requires.around; done = λ n lt. absurd (omega (arith, lt)) }
 
 pub row_mut-requires : goal.row_mut-requires
-row_mut-requires c = row_there (bordered_rows c.args.rows.now) c.args.rows.now.words c.loop-number.around c.loop-number.number c.loop-number.invariant.shape (omega arith)
+row_mut-requires c =
+    row_there (bordered_rows c.args.rows.now) c.args.rows.now.words c.loop-number.around c.loop-number.number c.loop-number.invariant.shape (omega arith)
 
 pub row-requires : goal.row-requires
-row-requires c = row_there (bordered_rows c.args.rows.now) c.args.rows.now.words c.args.below.now c.loop-number.number c.requires.below (omega arith)
+row-requires c =
+    row_there (bordered_rows c.args.rows.now) c.args.rows.now.words c.args.below.now c.loop-number.number c.requires.below (omega arith)
 
 pub row-requires-in-loop-number : goal.row-requires-in-loop-number
-row-requires-in-loop-number c = row_there (bordered_rows c.args.rows.now) c.args.rows.now.words c.args.above.now c.loop-number.number c.requires.above (omega arith)
+row-requires-in-loop-number c =
+    row_there (bordered_rows c.args.rows.now) c.args.rows.now.words c.args.above.now c.loop-number.number c.requires.above (omega arith)
 
 pub loop-number-preserved : goal.loop-number-preserved
 loop-number-preserved c =
