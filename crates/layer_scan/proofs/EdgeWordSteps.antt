@@ -6,7 +6,7 @@ use Rattle.std.proofs.lemmas.Nat.{and_mask}
 use Rattle.std.proofs.lemmas.Nat.Bits.{bit_at-lt, bit_at_xor}
 use Rattle.std.proofs.Math.Nat.{mod-eq_of_lt}
 use Rattle.std.specs.Int.{bit_at}
-use Rattle.std.specs.Prelude.{Bool, List, bit_xor, cond, count_by, count_ones, length, nat_lt, slice_index_or, slice_set, suc, true, zero}
+use Rattle.std.specs.Prelude.{Bool, List, bit_xor, cond, count_by, count_ones, length, nat_lt, slice_index_or, slice_set, suc, sum_by, true, zero}
 use Rattle.std.specs.Prelude.{ℕ, ◌%◌, ◌&&◌, ◌*◌, ◌+◌, ◌-◌, ◌<◌, ◌≤◌, ◌==◌, ◌^◌, ◌≡◌, ◌≢◌, ◌⊎◌}
 use Rattle.lists.specs.Bits.{is_set}
 use Rattle.lists.specs.Orders.{numbers}
@@ -97,24 +97,31 @@ after_word f g count w first second h k is are =
     ∙ ap (λ m. count + (m + count_by g (numbers (64 * w + 64)))) (counted_word f w first 64 (omega arith) h is)
     ∙ ap (λ m. count + ((a + count_ones first) + m)) (counted_word g w second 64 (omega arith) k are) ∙ turned
 
--- counts grow
-count_grows : (f : ℕ → Bool) (a b : ℕ) → count_by f (numbers a) ≤ count_by f (numbers (a + b))
-count_grows f a zero = let same : a + 0 ≡ a = omega arith in subst (λ (m : ℕ). count_by f (numbers a) ≤ count_by f (numbers m)) (sym same) (omega arith)
-count_grows f a (suc b) =
+-- sums and counts grow
+pub sum_grows : (f : ℕ → ℕ) (a b : ℕ) → sum_by f (numbers a) ≤ sum_by f (numbers (a + b))
+sum_grows f a zero =
+    let same : a + 0 ≡ a = omega arith in
+    subst (λ (m : ℕ). sum_by f (numbers a) ≤ sum_by f (numbers m)) (sym same) (omega arith)
+sum_grows f a (suc b) =
     let next : suc (a + b) ≡ a + suc b = omega arith in
-    let before : count_by f (numbers a) ≤ count_by f (numbers (a + b)) = count_grows f a b in
-    let more = sum_suc (λ x. cond (f x) 1 0) 0 (a + b) in
-    let longer : count_by f (numbers (a + b)) ≤ count_by f (numbers (suc (a + b))) = omega (arith, more) in
-    subst (λ (m : ℕ). count_by f (numbers a) ≤ count_by f (numbers m)) next (omega (arith, before, longer))
+    let before : sum_by f (numbers a) ≤ sum_by f (numbers (a + b)) = sum_grows f a b in
+    let more = sum_suc f 0 (a + b) in
+    let longer : sum_by f (numbers (a + b)) ≤ sum_by f (numbers (suc (a + b))) = omega (arith, more) in
+    subst (λ (m : ℕ). sum_by f (numbers a) ≤ sum_by f (numbers m)) next (omega (arith, before, longer))
+
+count_grows : (f : ℕ → Bool) (a b : ℕ) → count_by f (numbers a) ≤ count_by f (numbers (a + b))
+count_grows f a b = sum_grows (λ x. cond (f x) 1 0) a b
 
 pub number_grows : (f g : ℕ → Bool) (count a b : ℕ) → a ≤ b → number_at f g count a ≤ number_at f g count b
 number_grows f g count a b h =
     let whole : a + (b - a) ≡ b = omega arith in
-    let first : count_by f (numbers a) ≤ count_by f (numbers b) = subst (λ (m : ℕ). count_by f (numbers a) ≤ count_by f (numbers m)) whole (count_grows f a (b - a)) in
-    let second : count_by g (numbers a) ≤ count_by g (numbers b) = subst (λ (m : ℕ). count_by g (numbers a) ≤ count_by g (numbers m)) whole (count_grows g a (b - a)) in
+    let first : count_by f (numbers a) ≤ count_by f (numbers b) =
+    subst (λ (m : ℕ). count_by f (numbers a) ≤ count_by f (numbers m)) whole (count_grows f a (b - a)) in
+    let second : count_by g (numbers a) ≤ count_by g (numbers b) =
+    subst (λ (m : ℕ). count_by g (numbers a) ≤ count_by g (numbers m)) whole (count_grows g a (b - a)) in
     omega (arith, first, second)
 
-below_most : (a b c : ℕ) → a ≤ b → b < c → a < c
+pub below_most : (a b c : ℕ) → a ≤ b → b < c → a < c
 below_most a b c h k = omega arith
 
 -- the number after a word of a row stays below what the number after the row does

@@ -2,3 +2,4 @@ pub mod WordTests
 pub mod CornerRows
 pub mod PlaneRowSteps
 pub mod EdgeWordSteps
+pub mod EdgePlaneSteps

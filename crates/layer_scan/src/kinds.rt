@@ -27,8 +27,8 @@ impl Directions {
     }
 }
 
-// Whether an edge of the split that joins samples goes along so many axes: of cubes, and of pyramids at their bases, along
-// one, and of simplices along one or more.
+// Whether an edge of the split that joins samples goes along so many axes: of cubes, and of pyramids at their bases,
+// along one, and of simplices along one or more.
 fn goes_along(kind: Kind, axes: u32) -> bool
     ensures { result ≡ goes_along kind axes }
 {

@@ -2,11 +2,14 @@
 //!
 //! A layer is what lies between two slices of the last axis. Of each slice a bit is kept for each sample: whether it is
 //! at least the isovalue; of each layer one for each cube: whether it is kept. The bipolar edges in a row are where two
-//! such rows of signs, one of them moved by a place, differ and a kept cube is at the edge; the number of an edge is what
-//! was counted before its word, and the bits before it there.
+//! such rows of signs, one of them moved by a place, differ and a kept cube is at the edge. Rows are numbered in the
+//! order of their midpoints, so the number of an edge is what was counted before its word, and the bits before it
+//! there.
 #![tactic(auto)]
 
+mod centre_numbers;
 mod corners;
 mod kept;
 mod kinds;
+mod numbers;
 mod rows;

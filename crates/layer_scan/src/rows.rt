@@ -51,7 +51,8 @@ impl<'a> CubesAround<'a> {
     }
 }
 
-// Writes the bipolar edges of a row that join samples, and numbers them from `count` on; answers the number of the next.
+// Writes the bipolar edges of a row that join samples, and numbers them from `count` on; answers the number of the
+// next.
 pub(crate) fn number_row(
     row: &mut [EdgeWord],
     near: &[u64],
@@ -113,8 +114,8 @@ fn second_word(near: &[u64], far: &[u64], cubes: &CubesAround<'_>, there: bool, 
     }
 }
 
-// Writes the bipolar edges between the centres of a row of cubes and a row of corners, and numbers them from `count` on;
-// answers the number of the next.
+// Writes the bipolar edges between the centres of a row of cubes and a row of corners, and numbers them from `count`
+// on; answers the number of the next.
 pub(crate) fn number_centre_row(
     row: &mut [EdgeWord],
     centres: &[u64],

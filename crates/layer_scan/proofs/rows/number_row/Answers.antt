@@ -13,7 +13,8 @@ overflow_add-count-in-loop-w c =
     let h : first < 2 ^ 64 = search rules in
     let k : second < 2 ^ 64 = search rules in
     let small : c.loop-w.count + (count_ones first + count_ones second) < 2 ^ 32 =
-    fits_after (first_edge c.args.directions.first near far (rows_of c.args.cubes.now)) (second_edge c.args.directions.second near far (rows_of c.args.cubes.now))
+    fits_after (first_edge c.args.directions.first near far (rows_of c.args.cubes.now))
+    (second_edge c.args.directions.second near far (rows_of c.args.cubes.now))
     c.args.count c.loop-w.w (length c.args.row.now) c.loop-w.count first second (2 ^ 32) c.loop-w.invariant.counted (omega arith) h k
     c.first_word-first.ensures c.second_word-second.ensures c.requires.few in
     search rules
@@ -26,7 +27,8 @@ loop-w-preserved c =
     let second : ℕ = c.second_word-second.result in
     let h : first < 2 ^ 64 = search rules in
     let k : second < 2 ^ 64 = search rules in
-    one_more_edges (first_edge c.args.directions.first near far (rows_of c.args.cubes.now)) (second_edge c.args.directions.second near far (rows_of c.args.cubes.now))
+    one_more_edges (first_edge c.args.directions.first near far (rows_of c.args.cubes.now))
+    (second_edge c.args.directions.second near far (rows_of c.args.cubes.now))
     c.args.count c.loop-w.w first second c.loop-w.count c.loop-w.row c.loop-w.invariant (omega arith) h k c.first_word-first.ensures
     c.second_word-second.ensures
 
@@ -39,5 +41,6 @@ returns-clause-next c =
     let near : List ℕ = c.args.near.now in
     let far : List ℕ = c.args.far.now in
     c.loop-w.invariant.counted
-    ∙ ap (λ n. number_at (first_edge c.args.directions.first near far (rows_of c.args.cubes.now)) (second_edge c.args.directions.second near far (rows_of c.args.cubes.now))
+    ∙ ap (λ n. number_at (first_edge c.args.directions.first near far (rows_of c.args.cubes.now))
+    (second_edge c.args.directions.second near far (rows_of c.args.cubes.now))
     c.args.count (64 * n)) all

@@ -28,4 +28,5 @@ returns c =
     let all : length corners ≤ c.loop-number.number-index = search rules in
     λ k low.
     c.loop-number.invariant k low
-    ∙ ap (λ (ns : List ℕ). every_corner c.args.self.now.lower.now c.args.self.now.upper.now ns (64 * c.args.w + k)) (take_all c.loop-number.number-index corners all)
+    ∙ ap (λ (ns : List ℕ). every_corner c.args.self.now.lower.now c.args.self.now.upper.now ns (64 * c.args.w + k))
+    (take_all c.loop-number.number-index corners all)
