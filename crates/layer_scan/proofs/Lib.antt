@@ -3,3 +3,6 @@ pub mod CornerRows
 pub mod PlaneRowSteps
 pub mod EdgeWordSteps
 pub mod EdgePlaneSteps
+pub mod FlagSteps
+pub mod CentreSums
+pub mod SliceRows

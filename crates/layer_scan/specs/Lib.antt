@@ -4,3 +4,6 @@ pub mod RowsOfEdges
 pub mod Directions
 pub mod PlanesOfEdges
 pub mod PlanesOfCentres
+pub mod Centres
+pub mod SlicePlanes
+pub mod FlaggedCubes

@@ -8,8 +8,11 @@
 #![tactic(auto)]
 
 mod centre_numbers;
+mod centres;
 mod corners;
+mod flags;
 mod kept;
 mod kinds;
 mod numbers;
 mod rows;
+mod slices;

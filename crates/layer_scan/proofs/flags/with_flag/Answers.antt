@@ -1,0 +1,17 @@
+use Rattle.std.proofs.Common.{ap, refl, ◌∙◌, ◌≡◌, ◌*◌, ◌%◌, ◌^◌}
+use Rattle.std.specs.Prelude.{◌||◌, Bool, true, false, if◌then◌else◌}
+use mir.Val.{bool_byte}
+use Rattle.lists.specs.Bits.{is_set}
+use Rattle.bit_rows.proofs.WordBits.{set_or, test_bit}
+use Rattle.layer_scan.proofs.flags.with_flag.Goals as goal
+
+as_number : (test : Bool) → bool_byte test ≡ (if test then 1 else 0)
+as_number true = refl
+as_number false = refl
+
+pub returns : goal.returns
+returns c = λ k low.
+    let shifted = test_bit c.args.test c.args.place k c.requires low in
+    let number = c.from.ensures ∙ as_number c.args.test in
+    set_or c.args.word (c.from.result * 2 ^ c.args.place % 2 ^ 64) k
+    ∙ ap (λ t. is_set c.args.word k || t) (ap (λ n. is_set (n * 2 ^ c.args.place % 2 ^ 64) k) number ∙ shifted)
