@@ -25,7 +25,7 @@ use Rattle.mesh_laws.proofs.TakenMembers.{Takes, here, later, Takes-sorted, In-s
 
 -- ---- counts where one passes at most
 
-at_most_one : (p : ℕ → Bool) (xs : List ℕ) → Distinct xs → ((x y : ℕ) → In x xs → In y xs → p x ≡ true → p y ≡ true → x ≡ y)
+pub at_most_one : (p : ℕ → Bool) (xs : List ℕ) → Distinct xs → ((x y : ℕ) → In x xs → In y xs → p x ≡ true → p y ≡ true → x ≡ y)
     → count_by p xs ≡ bit (list_any p xs)
 at_most_one p [] d one = refl
 at_most_one p (x ∷ xs) d one = by_test (at_most_one p xs d.1 (λ y z i j. one y z (inr i) (inr j))) (p x) refl
@@ -46,7 +46,7 @@ same_turned : (f g : List ℕ) → same_list f g ≡ same_list g f
 same_turned f g = same_tests (same_list f g) (same_list g f) (λ e. (bytes_eq-Decides g f).1 (sym ((bytes_eq-Decides f g).0 e)))
     (λ e. (bytes_eq-Decides f g).1 (sym ((bytes_eq-Decides g f).0 e)))
 
-one_place : (face w : List ℕ) → is_distinct w ≡ true → (i j : ℕ) → i < length w → j < length w → face_without w i ≡ face → face_without w j ≡ face → i ≡ j
+pub one_place : (face w : List ℕ) → is_distinct w ≡ true → (i j : ℕ) → i < length w → j < length w → face_without w i ≡ face → face_without w j ≡ face → i ≡ j
 one_place face w d i j h l e f = elim (cases_eq i j) as (λ _. i ≡ j) [
   | inl s ↦ s
   | inr n ↦

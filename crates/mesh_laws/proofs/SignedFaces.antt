@@ -66,7 +66,7 @@ place_is face w k i d h e f = elim (cases_eq i k) as (λ _. i ≡ k) [
 ]
 
 -- the sign is that at the place
-signed_place : (m : ℕ) (face w : List ℕ) (k : ℕ) → is_distinct w ≡ true → k < length w → sorted (without k w) ≡ face
+pub signed_place : (m : ℕ) (face w : List ℕ) (k : ℕ) → is_distinct w ≡ true → k < length w → sorted (without k w) ≡ face
     → list_any (is_signed_face m face) (left_out w) ≡ not (is_odd (k + inversions (without k w) + m))
 signed_place m face w k d h e = same_tests (list_any (is_signed_face m face) (left_out w)) (not (is_odd (k + inversions (without k w) + m)))
     (λ t.
@@ -82,7 +82,7 @@ signed_place m face w k d h e = same_tests (list_any (is_signed_face m face) (le
     (λ t. any_from (is_signed_face m face) (left_out w) (k, without k w) (left_out-In w k h)
     (and_from (is_face face (k, without k w)) (not (is_odd (k + inversions (without k w) + m))) ((bytes_eq-Decides (sorted (without k w)) face).1 e) t))
 
-no_sign : (m : ℕ) (face w : List ℕ) → has_face face w ≡ false → has_signed m face w ≡ false
+pub no_sign : (m : ℕ) (face w : List ℕ) → has_face face w ≡ false → has_signed m face w ≡ false
 no_sign m face w h = false_from_ne_true (has_signed m face w) (λ t.
     let any = and_right (is_distinct w) (list_any (is_signed_face m face) (left_out w)) t in
     let r = from_any (is_signed_face m face) (left_out w) any in

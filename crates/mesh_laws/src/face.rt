@@ -15,14 +15,15 @@ fn has(numbers: &[u32], number: u32) -> bool
     numbers.iter().any(|other| number == *other)
 }
 
-// How many numbers are below this one.
-fn count_below(numbers: &[u32], number: u32) -> usize
+/// How many numbers are below this one.
+pub fn count_below(numbers: &[u32], number: u32) -> usize
     ensures { result ≡ count_by (λ other. nat_lt other number) numbers.now }
 {
     numbers.iter().filter(|other| **other < number).count()
 }
 
-fn is_distinct(numbers: &[u32]) -> bool
+/// Whether no number stands twice.
+pub fn is_distinct(numbers: &[u32]) -> bool
     ensures { result ≡ is_distinct numbers.now }
 {
     for (i, number) in numbers.iter().enumerate() {
@@ -33,8 +34,8 @@ fn is_distinct(numbers: &[u32]) -> bool
     true
 }
 
-// 1 where sorting the numbers takes an odd number of exchanges, and else 0.
-fn order_parity(numbers: &[u32]) -> usize
+/// 1 where sorting the numbers takes an odd number of exchanges, and else 0.
+pub fn order_parity(numbers: &[u32]) -> usize
     ensures { result ≡ inversions numbers.now % 2 }
 {
     let mut parity = 0;

@@ -56,8 +56,8 @@ fn add_faces<const D: usize>(simplex: &[u32; D], keys: &mut Vec<[u32; D]>) -> Re
     Ok(())
 }
 
-// The face of a simplex without a place.
-fn face_key<const D: usize>(simplex: &[u32; D], place: usize) -> [u32; D]
+/// The face of a simplex without a place, behind a 0, so that it has as many numbers as the simplex.
+pub fn face_key<const D: usize>(simplex: &[u32; D], place: usize) -> [u32; D]
     requires { place < D }
     ensures { result ≡ padded (face_without simplex.now place) }
 {
@@ -81,8 +81,8 @@ fn count_once<const D: usize>(keys: &[[u32; D]]) -> u64
     count
 }
 
-// Whether the member at a place of an ascending list differs from its neighbours, so that it stands there once.
-fn is_once<const D: usize>(keys: &[[u32; D]], place: usize) -> bool
+/// Whether the member at a place of an ascending list differs from its neighbours, so that it stands there once.
+pub fn is_once<const D: usize>(keys: &[[u32; D]], place: usize) -> bool
     requires ascending { IsSorted (slice_cmp nat_cmp) keys.now }
     requires place { place < length keys.now }
     ensures { result ≡ is_once_at keys.now place }

@@ -9,8 +9,8 @@ mod rounds;
 mod tests;
 mod walks;
 
-pub use face::{face_count, face_sum};
-pub use free::free_faces;
+pub use face::{count_below, face_count, face_sum, is_distinct, order_parity};
+pub use free::{face_key, free_faces, is_once};
 pub use mesh::Mesh;
 pub use rounds::{Corner, WalkRoom, walk_round};
 pub use walks::{Trail, turned, walk};
