@@ -1,5 +1,5 @@
 -- A face that some simplex has is glued exactly where no two simplices have it with the same sign.
-use Rattle.std.proofs.Common.{Bool, List, ap, arith, false, inl, inr, refl, subst, sym, true, ℕ, ◌+◌, ◌≤◌, ◌∙◌, ◌≡◌, ℤ, pos, negsuc, ◌+ℤ◌}
+use Rattle.std.proofs.Common.{List, ap, arith, inl, inr, true, ℕ, ◌+◌, ◌≤◌, ◌≡◌, ℤ, pos, negsuc, ◌+ℤ◌}
 use Rattle.std.specs.Prelude.{count_by, ◌&&◌, ◌||◌, ◌==◌}
 use Rattle.std.proofs.lemmas.Bool.{and_from, and_parts, cases_eq, or_cases, or_left, or_right}
 use Rattle.std.proofs.lemmas.Int.{ints}

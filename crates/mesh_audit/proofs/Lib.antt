@@ -1,3 +1,5 @@
 pub mod FindingLaws
 pub mod FindingTests
 pub mod GluedFaces
+pub mod SignedKeyLists
+pub mod VertexRunLists

@@ -1,1 +1,4 @@
 pub mod Findings
+pub mod SignedKeys
+pub mod VertexRuns
+pub mod OffMeshes

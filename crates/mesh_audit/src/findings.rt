@@ -1,11 +1,21 @@
 //! What a file says of a mesh, and what is found in it.
 
+use std::marker::Model;
+
 /// A mesh of which the positions were passed over: the number of its vertices, and its simplices, each with the numbers
-/// of D of them.
+/// of D of them. Contracts see the simplices as a list.
 #[derive(Drop)]
 pub struct Off<const D: usize> {
     pub vertices: u32,
     pub simplices: Vec<[u32; D]>,
+}
+
+impl<const D: usize> Model for Off<D> {
+    ghost use Rattle.mesh_audit.specs.OffMeshes.{Off};
+
+    ghost Value = { Off };
+
+    ghost view = { λ m. record { vertices = m.vertices; simplices = m.simplices.items } };
 }
 
 /// What is found in a mesh.

@@ -1,0 +1,64 @@
+//! The finding on a mesh.
+
+ghost use Rattle.std.specs.Prelude.{◌^◌, ◌<◌, ◌≤◌, ℕ, length, IfOk};
+ghost use Rattle.mesh_audit.specs.Findings.{HasFinding, NoneRepeats};
+ghost use Rattle.mesh_audit.specs.SignedKeys.{IsLeastSide};
+ghost use Rattle.mesh_audit.specs.OffMeshes.{AreIndices};
+
+use crate::findings::{Finding, Off};
+use crate::links::wrong_link;
+use crate::repeats::least_repeat;
+use crate::sides::wrong_side;
+use iso_base::Memory;
+use mesh_laws::{face_count, face_key, face_sum, free_faces};
+use std::alloc::Global;
+
+/// What is found in a mesh.
+///
+/// The numbers of the simplices are those of vertices, and D is at most 256, so that a place is a byte.
+///
+/// Sorts the faces with their signs, and in three dimensions the triangles by their vertices: takes time in proportion
+/// to `n log n` for `n` simplices, and D numbers for each face of a simplex.
+pub fn audit<const D: usize>(alloc: Global, off: &Off<D>) -> Result<Finding, Memory>
+    requires dimension { D ≤ 256 }
+    requires indices { AreIndices off.now }
+    requires few { length off.now.simplices < 2 ^ 30 }
+    ensures { IfOk result (HasFinding D off.now.vertices off.now.simplices) }
+{
+    let simplices = off.simplices.as_slice();
+    if let Some(number) = least_repeat(simplices) {
+        return Ok(Finding::Repeat {
+            simplex: number as u32,
+        });
+    }
+    if let Some((number, place)) = wrong_side(alloc, simplices)? {
+        return Ok(face_finding(simplices, number, place));
+    }
+    if D == 3 {
+        if let Some(vertex) = wrong_link(alloc, simplices)? {
+            return Ok(Finding::Link { vertex });
+        }
+    }
+    let boundary = free_faces(alloc, simplices)?;
+    Ok(Finding::Clean { boundary })
+}
+
+// The finding at the least simplex with a face that is not glued, and its least place.
+fn face_finding<const D: usize>(simplices: &[[u32; D]], number: usize, place: usize) -> Finding
+    requires dimension { D ≤ 256 }
+    requires few { length simplices.now < 2 ^ 30 }
+    requires distinct { NoneRepeats simplices.now }
+    requires side { IsLeastSide simplices.now (number, place) }
+    requires place { place < D }
+    ensures { (d vertices : ℕ) → HasFinding d vertices simplices.now result }
+{
+    let key = face_key(&simplices[number], place);
+    let numbers = &key[..];
+    let face = &numbers[1..];
+    Finding::Face {
+        simplex: number as u32,
+        place: place as u8,
+        count: face_count(simplices, face),
+        sum: face_sum(simplices, face),
+    }
+}
