@@ -13,18 +13,24 @@ use iso_base::Memory;
 use mesh_laws::{face_count, face_key, face_sum, free_faces};
 use std::alloc::Global;
 
+/// No memory holds an array of so many numbers.
+const ARRAY_LIMIT: usize = 1 << 61;
+
 /// What is found in a mesh.
 ///
-/// The numbers of the simplices are those of vertices, and D is at most 256, so that a place is a byte.
+/// The numbers of the simplices are those of vertices. Where D is more than 256, a face that is not glued may have a
+/// place that is no byte: then no finding can name it, and the answer is that of refused memory.
 ///
 /// Sorts the faces with their signs, and in three dimensions the triangles by their vertices: takes time in proportion
 /// to `n log n` for `n` simplices, and D numbers for each face of a simplex.
 pub fn audit<const D: usize>(alloc: Global, off: &Off<D>) -> Result<Finding, Memory>
-    requires dimension { D ≤ 256 }
     requires indices { AreIndices off.now }
     requires few { length off.now.simplices < 2 ^ 30 }
     ensures { IfOk result (HasFinding D off.now.vertices off.now.simplices) }
 {
+    if D >= ARRAY_LIMIT {
+        return Err(Memory);
+    }
     let simplices = off.simplices.as_slice();
     if let Some(number) = least_repeat(simplices) {
         return Ok(Finding::Repeat {
@@ -32,6 +38,9 @@ pub fn audit<const D: usize>(alloc: Global, off: &Off<D>) -> Result<Finding, Mem
         });
     }
     if let Some((number, place)) = wrong_side(alloc, simplices)? {
+        let Ok(place) = u8::try_from(place) else {
+            return Err(Memory);
+        };
         return Ok(face_finding(simplices, number, place));
     }
     if D == 3 {
@@ -44,20 +53,19 @@ pub fn audit<const D: usize>(alloc: Global, off: &Off<D>) -> Result<Finding, Mem
 }
 
 // The finding at the least simplex with a face that is not glued, and its least place.
-fn face_finding<const D: usize>(simplices: &[[u32; D]], number: usize, place: usize) -> Finding
-    requires dimension { D ≤ 256 }
+fn face_finding<const D: usize>(simplices: &[[u32; D]], number: usize, place: u8) -> Finding
     requires few { length simplices.now < 2 ^ 30 }
     requires distinct { NoneRepeats simplices.now }
     requires side { IsLeastSide simplices.now (number, place) }
     requires place { place < D }
     ensures { (d vertices : ℕ) → HasFinding d vertices simplices.now result }
 {
-    let key = face_key(&simplices[number], place);
+    let key = face_key(&simplices[number], place as usize);
     let numbers = &key[..];
     let face = &numbers[1..];
     Finding::Face {
         simplex: number as u32,
-        place: place as u8,
+        place,
         count: face_count(simplices, face),
         sum: face_sum(simplices, face),
     }

@@ -10,6 +10,8 @@ mod laws;
 mod links;
 mod repeats;
 mod sides;
+#[cfg(test)]
+mod tests;
 
 pub use audits::audit;
 pub use findings::{Finding, Off};

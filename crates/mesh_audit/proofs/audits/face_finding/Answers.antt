@@ -6,9 +6,6 @@ use Rattle.mesh_audit.specs.Findings.{face_at, simplex_at}
 use Rattle.mesh_audit.proofs.SignedKeyLists.{face_of_key, face_up}
 use Rattle.mesh_audit.proofs.audits.face_finding.Goals as goal
 
-pub overflow_cast-result-2 : goal.overflow_cast-result-2
-overflow_cast-result-2 g c = omega (arith, c.requires.place, c.requires.dimension)
-
 pub face_count-requires : goal.face_count-requires
 face_count-requires g c =
     let ws = c.args.simplices.now in
