@@ -12,6 +12,7 @@ use Rattle.nrrd_raw.specs.FaultCauses.{data_length}
 use Rattle.nrrd_raw.specs.GridFaultWords.{blame_of}
 use Rattle.nrrd_raw.specs.Headers.{HeaderIsRead}
 use Rattle.nrrd_raw.specs.Undecided.{BlamesWhile, EndsOpenFile, EndsOpenHeader, IsOpenData, IsOpenFile, IsOpenHeader, TakesSuch}
+use Rattle.nrrd_raw.proofs.OpenLaws.{some_map}
 
 -- bytes that begin with a header begin with it too where they are cut off behind it
 pub header_moved : (bytes data_bytes taken left : List ℕ) (h : Header) → HasHeader bytes h data_bytes → data_bytes ≡ taken ++ left
@@ -85,15 +86,11 @@ samples_end (Some bytes) middle new h (data_bytes, has, is) header few takes =
 
 -- ---- by the fault that is answered
 
-blamed : {P Q : Type 0} (o : Option ℕ) → (P → Q) → IfSome o (λ n. P) → IfSome o (λ n. Q)
-blamed None f h = tt
-blamed (Some n) f h = f h
-
 pub blamed_header : (old new : Option (List ℕ)) (fault : GridFault) → IfSome (blame_of fault) (λ n. TakesSuch IsOpenHeader old new)
     → IfSome (blame_of fault) (λ n. TakesSuch IsOpenFile old new)
-blamed_header old new fault blames = blamed (blame_of fault) (header_open old new) blames
+blamed_header old new fault blames = some_map (blame_of fault) (header_open old new) blames
 
 pub blames_samples : {T : Type 0} (r : Result T GridFault) (old middle new : Option (List ℕ)) (h : Header) → HeaderIsRead old middle h
     → TakesSuch EndsOpenHeader old middle → BlamesWhile (IsOpenData h) middle new r → BlamesWhile IsOpenFile old new r
 blames_samples (Ok x) old middle new h read header blames = tt
-blames_samples (Err fault) old middle new h read header blames = blamed (blame_of fault) (samples_open old middle new h read header) blames
+blames_samples (Err fault) old middle new h read header blames = some_map (blame_of fault) (samples_open old middle new h read header) blames

@@ -132,7 +132,7 @@ open-lines front start f l = record {
 
 -- ---- a shelf that is blamed
 
-some_map : {A B : Type 0} (o : Option ℕ) → (A → B) → IfSome o (λ n. A) → IfSome o (λ n. B)
+pub some_map : {A B : Type 0} (o : Option ℕ) → (A → B) → IfSome o (λ n. A) → IfSome o (λ n. B)
 some_map None f h = tt
 some_map (Some n) f h = f h
 
