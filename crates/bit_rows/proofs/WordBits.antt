@@ -3,6 +3,7 @@ use Rattle.std.proofs.Common.{ap, arith, inl, inr, refl, sym, ◌∙◌}
 use Rattle.std.proofs.lemmas.Bool.{and_right, cases_eq, ne_eqb, eq-eqb}
 use Rattle.std.proofs.lemmas.Nat.{pow_pos, and_mask}
 use Rattle.std.proofs.lemmas.List.Sums.{sum_by-cons}
+use mir.Val.{bool_byte}
 use lib.Count.{ones_step, ones-le}
 use lib.Pow.{field, mod-mod-pow, shr-shr}
 use Rattle.std.proofs.lemmas.Nat.Bits.{bit_at-lt, bit_at_lowest, bit_at-suc, bit_at-zero, bit_at_or}
@@ -14,6 +15,11 @@ use Rattle.std.specs.Prelude.{ℕ, ◌%◌, ◌&&◌, ◌||◌, ◌*◌, ◌+◌
 use Rattle.lists.specs.Bits.{is_set}
 use Rattle.lists.specs.Orders.{numbers}
 use Rattle.lists.proofs.Tests.{and_true, or_false}
+
+-- a test as a number
+pub as_number : (test : Bool) → bool_byte test ≡ (if test then 1 else 0)
+as_number true = refl
+as_number false = refl
 
 -- ---- or
 

@@ -10,6 +10,7 @@ use Rattle.iso_model.specs.Cells.{HasDimension, edge_ends}
 use Rattle.iso_model.specs.Points.{point}
 use Rattle.iso_model.specs.Splits.{axis_order, base_axis, base_side, cells_per_cube, corner, corner_offset, cube_at, cube_of, edge_of_ends, rank_of}
 use Rattle.lists.proofs.MemberLaws.{map-range_more, map_same}
+use Rattle.split_laws.proofs.Coordinates.{length-cube_at}
 use Rattle.edge_middles.specs.MovedEdges.{AreMovedEdges, moved}
 use Rattle.edge_middles.proofs.MovedMiddles.{ends_moved}
 use Rattle.std.proofs.lemmas.List.FromFn.{length-map-range_with_len}
@@ -28,10 +29,6 @@ point_moved (suc n) (c ∷ x) (k ∷ o) e h =
     ∙ rest in
     ap (λ (ys : List ℕ). (2 * c + k) ∷ ys) tail
 
-pub long_cube : (sizes : List ℕ) (n : ℕ) → length (cube_at sizes n) ≡ length sizes
-long_cube [] n = refl
-long_cube (s ∷ sizes) n = ap suc (long_cube sizes (n / (s - 1)))
-
 pub long_offset : (kind : Kind) (d rank k : ℕ) → HasDimension kind d → length (corner_offset kind d rank k) ≡ d
 long_offset Cube d rank k h = length-map-range_with_len (λ i. 2 * bit_at k i) 0 d
 long_offset Simplex d rank k h = length-map-range_with_len (λ i. 2 * count_by (nat_eq i) (take k (axis_order d rank))) 0 d
@@ -46,7 +43,7 @@ pub corner_moved : (kind : Kind) (sizes : List ℕ) (cell k : ℕ) → HasDimens
     → corner kind sizes cell k ≡ moved 2 (cube_of kind sizes cell) (corner_offset kind (length sizes) (rank_of kind sizes cell) k)
 corner_moved kind sizes cell k h =
     point_moved (length sizes) (cube_of kind sizes cell) (corner_offset kind (length sizes) (rank_of kind sizes cell) k)
-    (long_cube sizes (cell / cells_per_cube kind (length sizes))) (long_offset kind (length sizes) (rank_of kind sizes cell) k h)
+    (length-cube_at sizes (cell / cells_per_cube kind (length sizes))) (long_offset kind (length sizes) (rank_of kind sizes cell) k h)
 
 pub edges_moved : (kind : Kind) (sizes : List ℕ) → HasDimension kind (length sizes) → AreMovedEdges kind sizes
 edges_moved kind sizes h cell e =
@@ -55,7 +52,7 @@ edges_moved kind sizes h cell e =
     let rank : ℕ = rank_of kind sizes cell in
     let first : ℕ = (edge_ends kind d e).0 in
     let second : ℕ = (edge_ends kind d e).1 in
-    let long : length x ≡ d = long_cube sizes (cell / cells_per_cube kind d) in
+    let long : length x ≡ d = length-cube_at sizes (cell / cells_per_cube kind d) in
     (λ i. edge_of_ends (corner_moved kind sizes cell first h i) (corner_moved kind sizes cell second h i))
     ∙ ends_moved x (corner_offset kind d rank first) (corner_offset kind d rank second)
     (long_offset kind d rank first h ∙ sym long) (long_offset kind d rank second h ∙ sym long)

@@ -10,7 +10,8 @@ use Rattle.iso_model.specs.Splits.{Edge, cells_per_cube, cell_count, corner_offs
 use Rattle.edge_middles.specs.Middles.{edge_at, edge_from}
 use Rattle.edge_middles.specs.MovedEdges.{moved, moved_edge}
 use Rattle.edge_middles.proofs.CubeMiddles.{edges_there}
-use Rattle.edge_middles.proofs.GridEdges.{edges_moved, long_cube, long_offset}
+use Rattle.split_laws.proofs.Coordinates.{length-cube_at}
+use Rattle.edge_middles.proofs.GridEdges.{edges_moved, long_offset}
 use Rattle.edge_middles.proofs.MovedMiddles.{moves_edges}
 
 pub plus_moved : (x p q : List ℕ) → plus (moved 2 x p) (moved 2 x q) ≡ moved 4 x (plus p q)
@@ -50,7 +51,7 @@ own_middles kind sizes fits is cell e there few =
     let long : length (midpoint within) ≡ d = long_midpoint d (corner_offset kind d rank (edge_ends kind d e).0)
     (corner_offset kind d rank (edge_ends kind d e).1) (long_offset kind d rank (edge_ends kind d e).0 fits)
     (long_offset kind d rank (edge_ends kind d e).1 fits) in
-    let cube : length x ≡ d = long_cube sizes (cell / cells_per_cube kind d) in
+    let cube : length x ≡ d = length-cube_at sizes (cell / cells_per_cube kind d) in
     ap (λ n. edge_at (midpoint n)) as_moved ∙ ap edge_at (plus_moved x within.low within.high)
     ∙ moves_edges x (midpoint within) (cube ∙ sym long)
     ∙ ap (moved_edge x) (edges_there kind d is fits rank e (rank_below (cube_count sizes) (cells_per_cube kind d) cell there) few)

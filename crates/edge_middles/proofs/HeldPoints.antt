@@ -22,7 +22,9 @@ use Rattle.edge_middles.specs.Middles.{axes_along, cube_middles, edge_from, is_m
 use Rattle.edge_middles.specs.MovedEdges.{moved, moved_edge}
 use Rattle.edge_middles.specs.HeldMiddles.{AreMovedMiddles, HasHeldMiddles, IsHeldMiddle, cell_middles, cells_in, holds, middle_from}
 use Rattle.edge_middles.proofs.CubeMiddles.{has_all}
-use Rattle.edge_middles.proofs.GridEdges.{edges_moved, long_cube}
+use Rattle.split_laws.proofs.Coordinates.{length-cube_at}
+use Rattle.split_laws.proofs.Midpoints.{midpoint_of_ends}
+use Rattle.edge_middles.proofs.GridEdges.{edges_moved}
 use Rattle.edge_middles.proofs.GridMidpoints.{plus_moved}
 use Rattle.edge_middles.proofs.MovedMiddles.{joins_same}
 
@@ -116,14 +118,7 @@ midpoint_moved kind sizes h cube rank e few =
     edges_moved kind sizes h (cube * per + rank) e ∙ (λ i. moved_edge (cube_at sizes (own i)) (edge_from kind d (left i) e)) in
     let within = edge_from kind d rank e in
     ap midpoint as_moved ∙ plus_moved (cube_at sizes cube) within.low within.high
-    ∙ ap (moved 4 (cube_at sizes cube)) (either_order (corner_offset kind d rank (edge_ends kind d e).0) (corner_offset kind d rank (edge_ends kind d e).1))
-  where
-    either_order : (p q : List ℕ) → midpoint (edge_of_ends p q) ≡ plus p q
-    either_order p q = by_case (comes_first p q)
-      where
-        by_case : (t : Bool) → midpoint (if t then record { low = p; high = q } else record { low = q; high = p }) ≡ plus p q
-        by_case true = refl
-        by_case false = plus_comm q p
+    ∙ ap (moved 4 (cube_at sizes cube)) (midpoint_of_ends (corner_offset kind d rank (edge_ends kind d e).0) (corner_offset kind d rank (edge_ends kind d e).1))
 
 -- ---- both ways
 
@@ -131,8 +126,8 @@ is_held : (kind : Kind) (sizes : List ℕ) (cube : ℕ) (o middle : List ℕ) �
     → middle ≡ moved 4 (cube_at sizes cube) o → IsHeldMiddle kind sizes cube middle
 is_held kind sizes cube o middle long small is e =
     let x = cube_at sizes cube in
-    let same : length x ≡ length o = long_cube sizes cube ∙ sym long in (
-      ap length e ∙ moved_long x o same ∙ long_cube sizes cube,
+    let same : length x ≡ length o = length-cube_at sizes cube ∙ sym long in (
+      ap length e ∙ moved_long x o same ∙ length-cube_at sizes cube,
       ap (holds x) e ∙ held x o same small,
       ap (is_middle kind) e ∙ middle_same kind x o same ∙ is,
     )
@@ -169,12 +164,12 @@ other_way kind sizes fits dim cube middle h =
     let per : ℕ = cells_per_cube kind d in
     let count : ℕ = edge_count kind d in
     let x : List ℕ = cube_at sizes cube in
-    let same : length x ≡ length middle = long_cube sizes cube ∙ sym h.0 in
+    let same : length x ≡ length middle = length-cube_at sizes cube ∙ sym h.0 in
     let o : List ℕ = back x middle in
-    let long : length o ≡ d = back_long x middle same ∙ long_cube sizes cube in
+    let long : length o ≡ d = back_long x middle same ∙ length-cube_at sizes cube in
     let from : middle ≡ moved 4 x o = is_moved x middle same h.1 in
     let small : All (λ c. c ≤ 4) o = All-from_In (λ c. c ≤ 4) o (back_small x middle same h.1) in
-    let can : is_middle kind o ≡ true = sym (middle_same kind x o (long_cube sizes cube ∙ sym long)) ∙ sym (ap (is_middle kind) from) ∙ h.2 in
+    let can : is_middle kind o ≡ true = sym (middle_same kind x o (length-cube_at sizes cube ∙ sym long)) ∙ sym (ap (is_middle kind) from) ∙ h.2 in
     let r = from_In-flat_map (rank_middles kind d) (numbers per) o ((has_all kind d dim fits o).1 (long, small, can)) in
     let e = from_In-map (λ k. middle_from kind d r.0 k) (numbers count) o r.2 in
     let cell : ℕ = cube * per + r.0 in

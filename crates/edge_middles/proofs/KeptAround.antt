@@ -15,7 +15,7 @@ use Rattle.lists.proofs.Tests.{and_left, and_right, lt_of, next_below, of_lt, or
 use Rattle.edge_middles.specs.GridMiddles.{kept_cubes}
 use Rattle.edge_middles.specs.HeldMiddles.{holds}
 use Rattle.edge_middles.specs.WhatIsThere.{IsHeldByKept, StandsWhereKept, cubes_around, has_cube_at, is_kept_around, is_kept_at, places_around}
-use Rattle.edge_middles.proofs.GridEdges.{long_cube}
+use Rattle.split_laws.proofs.Coordinates.{length-cube_at}
 use Rattle.edge_middles.proofs.HeldPoints.{high_side, low_side}
 use Rattle.edge_middles.proofs.PointsThere.{along_axis, from_kept, to_kept}
 
@@ -103,7 +103,7 @@ held_by_kept v m long =
     (λ t.
     let from = from_any (λ x. holds x m) (kept_cubes v) t in
     let stands = from_kept v from.0 from.1 in
-    let wide : length from.0 ≡ length m = ap length stands.2 ∙ long_cube v.sizes stands.0 ∙ sym long in
+    let wide : length from.0 ≡ length m = ap length stands.2 ∙ length-cube_at v.sizes stands.0 ∙ sym long in
     any_from (is_kept_at v) (cubes_around m) from.0 (is_around from.0 m wide from.2) ((stands_where_kept v from.0).0 from.1))
     (λ t.
     let from = from_any (is_kept_at v) (cubes_around m) t in

@@ -27,7 +27,7 @@ use Rattle.edge_middles.specs.Middles.{edge_at, is_middle, joins_centre, joins_s
 use Rattle.edge_middles.specs.HeldMiddles.{holds}
 use Rattle.edge_middles.specs.PlainCubes.{HasEmptyEntries, HasNoBipolarEdge, HasOneSign, IsCornerOf}
 use Rattle.edge_middles.specs.WhatIsThere.{corner_by, is_above_at, is_centre_above, sample_above, sample_below}
-use Rattle.edge_middles.proofs.GridEdges.{long_cube}
+use Rattle.split_laws.proofs.Coordinates.{length-cube_at}
 use Rattle.edge_middles.proofs.GridMidpoints.{own_middles}
 use Rattle.edge_middles.proofs.Heights.{at_samples}
 use Rattle.edge_middles.proofs.HeldPoints.{high_side, low_side}
@@ -193,7 +193,7 @@ no_bipolar v fits cube above few same cell e there below =
     let held = held_by_cube v.kind v.sizes fits dim cell e inside below in
     let m : List ℕ = midpoint (edge v.kind v.sizes cell e) in
     ap (is_bipolar v) (sym (own_middles v.kind v.sizes fits dim cell e inside below))
-    ∙ no_bipolar_middle v fits (cube_at v.sizes cube) m above (long_cube v.sizes cube) held.0
+    ∙ no_bipolar_middle v fits (cube_at v.sizes cube) m above (length-cube_at v.sizes cube) held.0
     (subst (λ n. holds (cube_at v.sizes n) m ≡ true) own held.1) held.2 same
 
 -- ---- entries

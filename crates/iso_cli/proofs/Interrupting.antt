@@ -1,7 +1,7 @@
 -- What is left of a file after a refusal or a fault of the shelf.
 use Rattle.std.proofs.Common.{◌≡◌, ℕ, ◌<◌, ◌+◌, ◌^◌, length, List, ◌++◌, drop, Option, Some, None, IsSome, refl, sym, ap, subst, ◌∙◌}
-use Rattle.std.proofs.Common.{append_assoc, inl, inr, arith}
-use Rattle.std.specs.Prelude.{Ok, Err, IfSome, IsTrue, flat_map}
+use Rattle.std.proofs.Common.{inl, inr, arith}
+use Rattle.std.specs.Prelude.{Ok, Err, IfSome, IsTrue}
 use Rattle.std.specs.Io.KnownBytes.{Consumes}
 use Rattle.std.proofs.Math.Seq.{drop-append_seam}
 use Rattle.std.proofs.lemmas.Bool.{false≢true}
@@ -9,13 +9,13 @@ use Rattle.std.proofs.lemmas.Option.{none-some, same_Some}
 use Rattle.iso_base.specs.declared.outside.Failed.{Failed}
 use Rattle.iso_base.specs.Files.{Files, BeginsFile}
 use Rattle.iso_formats.specs.GridFile.{Header, HasHeader}
-use Rattle.iso_formats.specs.HeaderLines.{line_bytes}
 use Rattle.iso_model.specs.Tables.{Table}
 use Rattle.nrrd_raw.specs.declared.faults.GridFault.{GridFault}
 use Rattle.nrrd_raw.specs.declared.faults.GridFault.TheVariants as Faults
 use Rattle.nrrd_raw.specs.GridFaultWords.{is_header_fault, blame_of as blame_in}
 use Rattle.nrrd_raw.specs.Headers.{HeaderIsRead}
 use Rattle.nrrd_raw.specs.Undecided.{IsOpenData, IsOpenHeader, TakesSuch}
+use Rattle.nrrd_raw.proofs.OpenFileLaws.{header_moved}
 use Rattle.iso_cli.specs.declared.status.Status.{Status}
 use Rattle.iso_cli.specs.declared.status.Status.TheVariants as Statuses
 use Rattle.iso_cli.specs.StatusCauses.{grid_status}
@@ -64,22 +64,6 @@ table_open files name old new begun takes =
     (taken_of files name old new (λ bytes. length bytes < 2 ^ 30 + 1) begun takes)
 
 -- ---- the grid
-
--- bytes that begin with a header begin with it too where they are cut off behind it
-pub header_moved : (bytes data_bytes taken left : List ℕ) (h : Header) → HasHeader bytes h data_bytes → data_bytes ≡ taken ++ left
-    → (front : List ℕ) × (bytes ≡ front ++ left) × HasHeader front h taken
-header_moved bytes data_bytes taken left h (texts, lines, spelled) same =
-    let head : List ℕ = flat_map line_bytes lines.lines in
-    let is : bytes ≡ (head ++ taken) ++ left =
-    lines.spelled ∙ ap (λ (bs : List ℕ). head ++ bs) same ∙ sym (append_assoc head taken left) in (
-      head ++ taken,
-      is,
-      (
-        texts,
-        record { lines = lines.lines; are_lines = lines.are_lines; spelled = refl; read = lines.read; filled = lines.filled; short = lines.short },
-        spelled,
-      ),
-    )
 
 -- what was taken behind the header of a grid file
 pub samples_open : (files : Option Files) (name : List ℕ) (d : ℕ) (old middle new : Option (List ℕ)) (h : Header)

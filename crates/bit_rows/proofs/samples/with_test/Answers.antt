@@ -1,13 +1,8 @@
-use Rattle.std.proofs.Common.{ap, refl, ◌∙◌, ◌≡◌, ◌*◌, ◌%◌, ◌^◌}
-use Rattle.std.specs.Prelude.{◌||◌, Bool, true, false, if◌then◌else◌}
-use mir.Val.{bool_byte}
+use Rattle.std.proofs.Common.{ap, ◌∙◌, ◌≡◌, ◌*◌, ◌%◌, ◌^◌}
+use Rattle.std.specs.Prelude.{◌||◌}
 use Rattle.lists.specs.Bits.{is_set}
-use Rattle.bit_rows.proofs.WordBits.{set_or, test_bit}
+use Rattle.bit_rows.proofs.WordBits.{as_number, set_or, test_bit}
 use Rattle.bit_rows.proofs.samples.with_test.Goals as goal
-
-as_number : (test : Bool) → bool_byte test ≡ (if test then 1 else 0)
-as_number true = refl
-as_number false = refl
 
 pub returns : goal.returns
 returns c = λ k low.
