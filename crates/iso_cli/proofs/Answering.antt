@@ -9,6 +9,7 @@ use Rattle.iso_base.specs.declared.outside.Failed.{Failed}
 use Rattle.iso_base.specs.Files.{Files, bytes_of}
 use Rattle.iso_base.specs.Fronts.{AppendsFront}
 use Rattle.iso_formats.specs.Commands.{AreRight, Command, IsWrongWord, Say, generate_command, check_command, extract_command, demo_command}
+use Rattle.iso_formats.specs.Commands.{convert_command}
 use Rattle.iso_words.specs.Built.{is_built}
 use Rattle.iso_words.proofs.WrongLemmas.{Say-one}
 use Rattle.iso_cli.specs.declared.status.Status.{Status}
@@ -19,7 +20,7 @@ use Rattle.iso_cli.specs.Runs.{files_named}
 use Rattle.iso_cli.specs.Outputs.{BlamesOutput}
 use Rattle.iso_cli.specs.Statuses.{IsDecided, IsDoneOrMemory, IsUsage}
 use Rattle.iso_cli.specs.StatusLines.{status_line}
-use Rattle.iso_cli.proofs.Excluding.{WrongEdgesStop, not_refused_check, not_refused_mesh}
+use Rattle.iso_cli.proofs.Excluding.{not_refused_check, not_refused_file, not_refused_mesh}
 
 -- ---- the files
 
@@ -96,6 +97,7 @@ all_there files (check_command table) there lacks = some_none files table there.
 all_there files (extract_command table grid iso) there (inl lacks) = some_none files table there.0 lacks
 all_there files (extract_command table grid iso) there (inr lacks) = some_none files grid there.1.0 lacks.2
 all_there files (demo_command kind d size seed) there lacks = lacks
+all_there files (convert_command table) there lacks = some_none files table there.0 lacks
 
 -- a shelf that serves well is not blamed
 not_blamed : {S : Type 0} (faults : S → ℕ) (files : S → Option Files) (sound : S → Type 0) (words : List (List ℕ)) (count : ℕ) (old new : S)
@@ -132,14 +134,15 @@ complete faults files sound words (Statuses.Unfit table grid) old new before now
     absurd (may.1 (Statuses.Unfit table grid) tt true_of)
 
 -- files that hold what a command needs are not refused
-not_refused : (files : Option Files) (command : Command) (status : Status) → WrongEdgesStop → IsSome files → HoldNeeded files command
+not_refused : (files : Option Files) (command : Command) (status : Status) → IsSome files → HoldNeeded files command
     → AreRefused files status command → ⊥
-not_refused None command status stops told holds refused = let none : IsSome {T = Files} None = told in cc
-not_refused (Some files) (generate_command kind d) status stops told holds refused = refused
-not_refused (Some files) (check_command table) status stops told holds refused = not_refused_check files table holds.0 status stops holds.1 refused
-not_refused (Some files) (extract_command table grid iso) status stops told holds refused =
-    not_refused_mesh files table grid holds.0 holds.1 status stops holds.2 refused
-not_refused (Some files) (demo_command kind d size seed) status stops told holds refused = holds
+not_refused None command status told holds refused = let none : IsSome {T = Files} None = told in cc
+not_refused (Some files) (generate_command kind d) status told holds refused = refused
+not_refused (Some files) (check_command table) status told holds refused = not_refused_check files table holds.0 status holds.1 refused
+not_refused (Some files) (extract_command table grid iso) status told holds refused =
+    not_refused_mesh files table grid holds.0 holds.1 status holds.2 refused
+not_refused (Some files) (demo_command kind d size seed) status told holds refused = holds
+not_refused (Some files) (convert_command table) status told holds refused = not_refused_file files table holds.0 status holds.1 refused
 
 pub decided_answer : (files : Option Files) (words : List (List ℕ)) (status : Status) → IsDecided status → IsTrueAnswer files words status
     → SayBuilt words (IsTrueOf files status)
@@ -147,11 +150,11 @@ decided_answer files words (Statuses.Usage place) decided true_of = absurd decid
 decided_answer files words _ decided true_of = true_of
 
 -- where the files hold what the command needs, no refusal holds
-pub answerable : (files : Option Files) (words : List (List ℕ)) → WrongEdgesStop → IsSome files → SayBuilt words (HoldNeeded files) → IsAnswerable files words
-answerable files words stops told said = (
+pub answerable : (files : Option Files) (words : List (List ℕ)) → IsSome files → SayBuilt words (HoldNeeded files) → IsAnswerable files words
+answerable files words told said = (
   (said.0, said.1, said.2),
   λ status decided true_of.
       let other = decided_answer files words status decided true_of in
-      not_refused files said.0 status stops told said.3
+      not_refused files said.0 status told said.3
       (subst (λ (c : Command). AreRefused files status c) (Say-one words other.0 said.0 other.1 said.1 other.2 said.2) (other.3 decided)),
 )

@@ -1,6 +1,6 @@
 -- What is left of a file after a refusal or a fault of the shelf.
-use Rattle.std.proofs.Common.{◌≡◌, ℕ, ◌<◌, ◌+◌, ◌^◌, length, List, ◌++◌, drop, Option, Some, None, IsSome, refl, sym, ap, subst, ◌∙◌}
-use Rattle.std.proofs.Common.{inl, inr, arith}
+use Rattle.std.proofs.Common.{◌≡◌, ℕ, length, List, ◌++◌, drop, Option, Some, None, IsSome, refl, sym, ap, subst, ◌∙◌}
+use Rattle.std.proofs.Common.{inl, inr}
 use Rattle.std.specs.Prelude.{Ok, Err, IfSome, IsTrue}
 use Rattle.std.specs.Io.KnownBytes.{Consumes}
 use Rattle.std.proofs.Math.Seq.{drop-append_seam}
@@ -22,7 +22,8 @@ use Rattle.iso_cli.specs.StatusCauses.{grid_status}
 use Rattle.iso_cli.specs.Refusals.{FileHas, HoldsAccepted}
 use Rattle.iso_cli.specs.Rests.{IsLeftBehindHeader, IsOpenGrid, IsOpenTable, IsTakenFrom, LeavesGridFile, LeavesMeshFile, LeavesTableFile}
 use Rattle.iso_cli.specs.Rests.{LeavesLongTable, at_grid, at_table}
-use Rattle.iso_cli.specs.Statuses.{IsOfGrid, IsOfTable}
+use Rattle.iso_cli.specs.Shelves.{BlamesWhile}
+use Rattle.iso_cli.specs.Statuses.{IsOfGrid, IsOfReading, IsOfTable}
 use Rattle.iso_cli.proofs.Refusing.{behind_header, file_has}
 
 -- ---- what was taken
@@ -56,12 +57,19 @@ taken_stays now files name rest P same takes = subst (λ (fs : Option Files). Is
 
 -- ---- the table
 
--- of a table file that was begun fewer bytes were taken than are too many
+-- of a table file that was begun no more bytes were taken than may be all of it
 pub table_open : (files : Option Files) (name : List ℕ) (old new : Option (List ℕ)) → BeginsFile {E = Failed} files old name (Ok tt)
-    → TakesSuch (λ bytes. length bytes < 2 ^ 30 + 1) old new → IsTakenFrom files name new IsOpenTable
-table_open files name old new begun takes =
-    taken_map files name new (λ bytes. length bytes < 2 ^ 30 + 1) IsOpenTable (λ bytes below. omega (arith, below))
-    (taken_of files name old new (λ bytes. length bytes < 2 ^ 30 + 1) begun takes)
+    → TakesSuch IsOpenTable old new → IsTakenFrom files name new IsOpenTable
+table_open files name old new begun takes = taken_of files name old new IsOpenTable begun takes
+
+-- what is left where taking bytes of a table file that was begun ended the run
+pub reading_leaves : (files : Option Files) (name : List ℕ) (old new : Option (List ℕ)) (status : Status)
+    → BeginsFile {E = Failed} files old name (Ok tt) → IsOfReading status → BlamesWhile IsOpenTable old new status
+    → LeavesTableFile files name new status
+reading_leaves files name old new Statuses.Memory begun kind blames = record { long = tt; undecided = λ fault. absurd fault }
+reading_leaves files name old new (Statuses.ShelfFault count) begun kind blames =
+    record { long = tt; undecided = λ fault. table_open files name old new begun (blames fault) }
+reading_leaves files name old new _ begun kind blames = absurd kind
 
 -- ---- the grid
 

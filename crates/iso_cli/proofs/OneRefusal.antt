@@ -5,16 +5,16 @@ use Rattle.iso_base.specs.Files.{Files}
 use Rattle.iso_model.specs.Acceptance.{IsRefusedAt}
 use Rattle.iso_model.specs.Tables.{Table}
 use Rattle.iso_formats.specs.Commands.{Command, IsWrongWord}
-use Rattle.iso_formats.specs.Commands.{generate_command, check_command, extract_command, demo_command}
+use Rattle.iso_formats.specs.Commands.{generate_command, check_command, extract_command, demo_command, convert_command}
 use Rattle.iso_formats.specs.GridFaults.{GridFault, HasHeaderFault, HasSampleFault, lines_fault}
 use Rattle.iso_formats.specs.GridFaults.{cut_off, no_magic, of_lines, overlong, too_many, unended}
 use Rattle.iso_formats.specs.GridFaults as fault
 use Rattle.iso_formats.specs.GridFile.{Header}
-use Rattle.iso_formats.specs.TableFile.{HasOneFault, HasTableFault, TableFault}
 use Rattle.iso_formats.proofs.HeaderFaultLaws.{header_or_fault}
 use Rattle.iso_formats.proofs.LineLaws.{one_header}
 use Rattle.std.proofs.lemmas.Option.{same_Some}
-use Rattle.table_file.proofs.WritingLaws.{spelled_once}
+use Rattle.table_file.proofs.FileFaultLaws.{same_file_fault}
+use Rattle.table_file.proofs.FileLaws.{one_file_table}
 use Rattle.iso_words.specs.Built.{is_built}
 use Rattle.iso_words.proofs.WrongLemmas.{IsWrongWord-one, Say-one, never_said}
 use Rattle.iso_cli.specs.declared.status.Status.{Status}
@@ -25,26 +25,15 @@ use Rattle.iso_cli.specs.Refusals.{by_form, by_grid, by_rule, by_table, grid_ref
 use Rattle.iso_cli.specs.Runs.{AreRefused, IsTrueAnswer}
 use Rattle.iso_cli.specs.Statuses.{IsUsage}
 use Rattle.iso_cli.proofs.Answering.{answerable, decided_answer}
-use Rattle.iso_cli.proofs.Excluding.{WrongEdgesStop, both_have, no_fault, not_refused_check, not_refused_form, one_head}
+use Rattle.iso_cli.proofs.Excluding.{both_have, not_refused_check, not_refused_form, one_head}
 
 -- ---- tables
 
--- what is said of the faults of bytes that are no table: they have one, and what stops where an edge's number is wrong
-pub record HaveFaults : Type 0 where
-  pub stops : WrongEdgesStop
-  pub one : (bytes : List ℕ) → HasOneFault bytes
-
--- bytes that are no table have one fault
-same_table_fault : (bytes : List ℕ) (f g : TableFault) → HaveFaults → HasTableFault bytes f → HasTableFault bytes g → f ≡ g
-same_table_fault bytes f g faults a b =
-    let only = faults.one bytes (λ whole. no_fault bytes f faults.stops whole a) in
-    only.2 f a ∙ sym (only.2 g b)
-
-one_form : (bytes : List ℕ) (a b : Status) → HaveFaults → IsRefusedForm bytes a → IsRefusedForm bytes b → a ≡ b
-one_form bytes _ _ faults (too_long long) (too_long other) = refl
-one_form bytes _ _ faults (too_long long) (no_table g few has) = absurd (few long)
-one_form bytes _ _ faults (no_table f few has) (too_long long) = absurd (few long)
-one_form bytes _ _ faults (no_table f few has) (no_table g few' has') = ap table_refusal (same_table_fault bytes f g faults has has')
+one_form : (bytes : List ℕ) (a b : Status) → IsRefusedForm bytes a → IsRefusedForm bytes b → a ≡ b
+one_form bytes _ _ (too_long long) (too_long other) = refl
+one_form bytes _ _ (too_long long) (no_table g few has) = absurd (few long)
+one_form bytes _ _ (no_table f few has) (too_long long) = absurd (few long)
+one_form bytes _ _ (no_table f few has) (no_table g few' has') = ap table_refusal (same_file_fault bytes f g has has')
 
 -- a table is refused at one label, by one rule
 not_before : (t : Table) (label r m q : ℕ) → IsRefusedAt t label r → IsRefusedAt t m q → label < m → ⊥
@@ -76,17 +65,17 @@ one_verdict t label r m q a b =
 
 one_rule : (bytes : List ℕ) (a b : Status) → IsRefusedByRule bytes a → IsRefusedByRule bytes b → a ≡ b
 one_rule bytes _ _ (not_accepted t label r held refused) (not_accepted u m q held' refused') =
-    let same : t ≡ u = spelled_once bytes t u held.spelled held'.spelled in
+    let same : t ≡ u = one_file_table bytes u t held'.spelled held.spelled in
     one_verdict t label r m q refused (subst (λ (x : Table). IsRefusedAt x m q) (sym same) refused')
 
-form_or_rule : (bytes : List ℕ) (a b : Status) → HaveFaults → IsRefusedForm bytes a → IsRefusedByRule bytes b → ⊥
-form_or_rule bytes a _ faults form (not_accepted t label r held refused) = not_refused_form bytes t a faults.stops held form
+form_or_rule : (bytes : List ℕ) (a b : Status) → IsRefusedForm bytes a → IsRefusedByRule bytes b → ⊥
+form_or_rule bytes a _ form (not_accepted t label r held refused) = not_refused_form bytes t a held form
 
-one_table_refusal : (bytes : List ℕ) (a b : Status) → HaveFaults → IsRefusedTable bytes a → IsRefusedTable bytes b → a ≡ b
-one_table_refusal bytes a b faults (by_form p) (by_form q) = one_form bytes a b faults p q
-one_table_refusal bytes a b faults (by_form p) (by_rule q) = absurd (form_or_rule bytes a b faults p q)
-one_table_refusal bytes a b faults (by_rule p) (by_form q) = absurd (form_or_rule bytes b a faults q p)
-one_table_refusal bytes a b faults (by_rule p) (by_rule q) = one_rule bytes a b p q
+one_table_refusal : (bytes : List ℕ) (a b : Status) → IsRefusedTable bytes a → IsRefusedTable bytes b → a ≡ b
+one_table_refusal bytes a b (by_form p) (by_form q) = one_form bytes a b p q
+one_table_refusal bytes a b (by_form p) (by_rule q) = absurd (form_or_rule bytes a b p q)
+one_table_refusal bytes a b (by_rule p) (by_form q) = absurd (form_or_rule bytes b a q p)
+one_table_refusal bytes a b (by_rule p) (by_rule q) = one_rule bytes a b p q
 
 -- ---- grids
 
@@ -143,28 +132,31 @@ one_grid_refusal d bytes _ _ (no_samples h x f p fits has) (no_samples k y g q f
 
 -- ---- the files
 
-one_mesh_refusal : (files : Files) (table grid : List ℕ) (a b : Status) → HaveFaults → IsRefusedMesh (Some files) table grid a
+one_mesh_refusal : (files : Files) (table grid : List ℕ) (a b : Status) → IsRefusedMesh (Some files) table grid a
     → IsRefusedMesh (Some files) table grid b → a ≡ b
-one_mesh_refusal files table grid a b faults (by_table p) (by_table q) =
+one_mesh_refusal files table grid a b (by_table p) (by_table q) =
     let both = both_have files table (λ bytes. IsRefusedTable bytes a) (λ bytes. IsRefusedTable bytes b) p q in
-    one_table_refusal both.0 a b faults both.1 both.2
-one_mesh_refusal files table grid a b faults (by_table p) (by_grid t held q) = absurd (not_refused_check files table t a faults.stops held p)
-one_mesh_refusal files table grid a b faults (by_grid t held p) (by_table q) = absurd (not_refused_check files table t b faults.stops held q)
-one_mesh_refusal files table grid a b faults (by_grid t held p) (by_grid u held' q) =
+    one_table_refusal both.0 a b both.1 both.2
+one_mesh_refusal files table grid a b (by_table p) (by_grid t held q) = absurd (not_refused_check files table t a held p)
+one_mesh_refusal files table grid a b (by_grid t held p) (by_table q) = absurd (not_refused_check files table t b held q)
+one_mesh_refusal files table grid a b (by_grid t held p) (by_grid u held' q) =
     let tables = both_have files table (λ bytes. IsFileOf bytes t) (λ bytes. IsFileOf bytes u) held.table.held held'.table.held in
-    let same : t ≡ u = spelled_once tables.0 t u tables.1.spelled tables.2.spelled in
+    let same : t ≡ u = one_file_table tables.0 u t tables.2.spelled tables.1.spelled in
     let both = both_have files grid (λ bytes. IsRefusedGrid t.dimension bytes a) (λ bytes. IsRefusedGrid u.dimension bytes b) p q in
     let moved : IsRefusedGrid t.dimension both.0 b = subst (λ (x : Table). IsRefusedGrid x.dimension both.0 b) (sym same) both.2 in
     one_grid_refusal t.dimension both.0 a b both.1 moved
 
-one_refusal : (files : Files) (command : Command) (a b : Status) → HaveFaults → AreRefused (Some files) a command → AreRefused (Some files) b command
+one_refusal : (files : Files) (command : Command) (a b : Status) → AreRefused (Some files) a command → AreRefused (Some files) b command
     → a ≡ b
-one_refusal files (generate_command kind d) a b faults p q = absurd p
-one_refusal files (check_command table) a b faults p q =
+one_refusal files (generate_command kind d) a b p q = absurd p
+one_refusal files (check_command table) a b p q =
     let both = both_have files table (λ bytes. IsRefusedTable bytes a) (λ bytes. IsRefusedTable bytes b) p q in
-    one_table_refusal both.0 a b faults both.1 both.2
-one_refusal files (extract_command table grid iso) a b faults p q = one_mesh_refusal files table grid a b faults p q
-one_refusal files (demo_command kind d size seed) a b faults p q = absurd p
+    one_table_refusal both.0 a b both.1 both.2
+one_refusal files (extract_command table grid iso) a b p q = one_mesh_refusal files table grid a b p q
+one_refusal files (demo_command kind d size seed) a b p q = absurd p
+one_refusal files (convert_command table) a b p q =
+    let both = both_have files table (λ bytes. IsRefusedForm bytes a) (λ bytes. IsRefusedForm bytes b) p q in
+    one_form both.0 a b both.1 both.2
 
 -- ---- the words
 
@@ -175,28 +167,28 @@ wrong_answer files words (Statuses.Usage place) usage true_of = (place, refl, tr
 wrong_answer files words _ usage true_of = absurd usage
 
 -- words and files that are refused twice are refused with the same status
-pub one_answer : (files : Files) (words : List (List ℕ)) → HaveFaults → HaveOneAnswer files words
-one_answer files words faults a b (inl p) (inl q) true_a true_b =
+pub one_answer : (files : Files) (words : List (List ℕ)) → HaveOneAnswer files words
+one_answer files words a b (inl p) (inl q) true_a true_b =
     let one = wrong_answer (Some files) words a p true_a in
     let other = wrong_answer (Some files) words b q true_b in
     one.1 ∙ ap Statuses.Usage (IsWrongWord-one words one.0 other.0 one.2 other.2) ∙ sym other.1
-one_answer files words faults a b (inl p) (inr q) true_a true_b =
+one_answer files words a b (inl p) (inr q) true_a true_b =
     let wrong = wrong_answer (Some files) words a p true_a in
     let said = decided_answer (Some files) words b q true_b in
     absurd (never_said words wrong.0 wrong.2 said.0 said.1 said.2)
-one_answer files words faults a b (inr p) (inl q) true_a true_b =
+one_answer files words a b (inr p) (inl q) true_a true_b =
     let wrong = wrong_answer (Some files) words b q true_b in
     let said = decided_answer (Some files) words a p true_a in
     absurd (never_said words wrong.0 wrong.2 said.0 said.1 said.2)
-one_answer files words faults a b (inr p) (inr q) true_a true_b =
+one_answer files words a b (inr p) (inr q) true_a true_b =
     let one = decided_answer (Some files) words a p true_a in
     let other = decided_answer (Some files) words b q true_b in
     let same : other.0 ≡ one.0 = Say-one words other.0 one.0 other.1 one.1 other.2 one.2 in
-    one_refusal files one.0 a b faults (one.3 p) (subst (λ (c : Command). AreRefused (Some files) b c) same (other.3 q))
+    one_refusal files one.0 a b (one.3 p) (subst (λ (c : Command). AreRefused (Some files) b c) same (other.3 q))
 
 -- refused words or files do not hold what the words need
-pub lack_where_refused : (files : Files) (words : List (List ℕ)) → HaveFaults → LackWhereRefused files words
-lack_where_refused files words faults a (inl p) true_of holds =
+pub lack_where_refused : (files : Files) (words : List (List ℕ)) → LackWhereRefused files words
+lack_where_refused files words a (inl p) true_of holds =
     let wrong = wrong_answer (Some files) words a p true_of in
     never_said words wrong.0 wrong.2 holds.0 holds.1 holds.2
-lack_where_refused files words faults a (inr p) true_of holds = (answerable (Some files) words faults.stops refl holds).1 a p true_of
+lack_where_refused files words a (inr p) true_of holds = (answerable (Some files) words refl holds).1 a p true_of

@@ -1,11 +1,11 @@
 -- What the bytes of a file that was begun decide.
-use Rattle.std.proofs.Common.{◌≡◌, ◌≢◌, ℕ, ◌<◌, ◌≤◌, ◌^◌, length, List, Option, Some, None, IsSome, refl, sym, subst, ◌∙◌, arith}
+use Rattle.std.proofs.Common.{◌≡◌, ◌≢◌, ℕ, length, List, Option, Some, None, IsSome, refl, sym, subst, ◌∙◌}
 use Rattle.std.specs.Prelude.{Result, Ok, Err, IfErr, IfSome, IsErrAnd}
 use Rattle.iso_base.specs.declared.outside.Failed.{Failed}
 use Rattle.iso_base.specs.Files.{Files, bytes_of, BeginsFile}
 use Rattle.iso_formats.specs.GridFile.{Header, HasHeader}
 use Rattle.iso_formats.specs.GridFaults as cause
-use Rattle.iso_formats.specs.TableFile.{IsTooLong, magic_fault, kind_fault, edge_fault, short_fault, extra_fault}
+use Rattle.iso_formats.specs.TableFile2.{IsFileTooLong, at_magic, at_kind, at_edge, at_short, at_extra, at_index, at_count}
 use Rattle.nrrd_raw.specs.declared.faults.GridFault.{GridFault}
 use Rattle.nrrd_raw.specs.declared.faults.GridFault.TheVariants as Faults
 use Rattle.nrrd_raw.specs.FaultCauses.{cause_of}
@@ -47,18 +47,16 @@ file_map (Some files) name P Q go has = (has.0, has.1, go has.0 has.2)
 
 -- ---- the table
 
--- few enough bytes are not too many
-pub short : (bytes : List ℕ) → length bytes ≤ 2 ^ 30 → IsTooLong bytes → ⊥
-short bytes few long = let far : 2 ^ 30 < length bytes = long in omega (arith, few, far)
-
 -- bytes that are not too many are refused with the status of their fault
-pub fault_refused : (fault : TableFault) (bytes : List ℕ) → length bytes ≤ 2 ^ 30 → HasCause bytes fault → IsDecided (table_status fault)
+pub fault_refused : (fault : TableFault) (bytes : List ℕ) → ¬ IsFileTooLong bytes → HasCause bytes fault → IsDecided (table_status fault)
     → IsRefusedForm bytes (table_status fault)
-fault_refused (TableFaults.Magic place) bytes few cause decided = no_table (magic_fault place) (short bytes few) cause
-fault_refused (TableFaults.Kind place) bytes few cause decided = no_table (kind_fault place) (short bytes few) cause
-fault_refused (TableFaults.EdgeNumber place) bytes few cause decided = no_table (edge_fault place) (short bytes few) cause
-fault_refused (TableFaults.Short place) bytes few cause decided = no_table (short_fault place) (short bytes few) cause
-fault_refused (TableFaults.Extra place) bytes few cause decided = no_table (extra_fault place) (short bytes few) cause
+fault_refused (TableFaults.Magic place) bytes few cause decided = no_table (at_magic place) few cause
+fault_refused (TableFaults.Kind place) bytes few cause decided = no_table (at_kind place) few cause
+fault_refused (TableFaults.EdgeNumber place) bytes few cause decided = no_table (at_edge place) few cause
+fault_refused (TableFaults.Short place) bytes few cause decided = no_table (at_short place) few cause
+fault_refused (TableFaults.Extra place) bytes few cause decided = no_table (at_extra place) few cause
+fault_refused (TableFaults.Index place) bytes few cause decided = no_table (at_index place) few cause
+fault_refused (TableFaults.Count place) bytes few cause decided = no_table (at_count place) few cause
 fault_refused TableFaults.Memory bytes few cause decided = absurd decided
 
 -- ---- the grid

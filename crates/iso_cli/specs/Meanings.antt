@@ -1,12 +1,12 @@
 -- What each command means: a new command adds its lines at the end, and changes none.
 use Rattle.std.specs.Prelude.{◌≡◌, ℕ, List, [], ◌∷◌, Option, None, ⊤}
 use Rattle.iso_base.specs.Files.{Files, bytes_of}
-use Rattle.iso_formats.specs.Commands.{Command, generate_command, check_command, extract_command, demo_command}
+use Rattle.iso_formats.specs.Commands.{Command, generate_command, check_command, extract_command, demo_command, convert_command}
 use Rattle.iso_model.specs.Tables.{Table}
 use Rattle.iso_model.specs.Values.{Grid}
 use Rattle.iso_cli.specs.declared.status.Status.{Status}
-use Rattle.iso_cli.specs.Outputs.{IsAcceptance, IsGenerated, IsMeshText}
-use Rattle.iso_cli.specs.Refusals.{HoldBoth, HoldsAccepted, IsRefusedFile, IsRefusedMesh, IsRefusedTable, LacksMeshFile}
+use Rattle.iso_cli.specs.Outputs.{IsAcceptance, IsConverted, IsGenerated, IsMeshText}
+use Rattle.iso_cli.specs.Refusals.{HoldBoth, HoldsAccepted, HoldsTable, IsRefusedFile, IsRefusedForm, IsRefusedMesh, IsRefusedTable, LacksMeshFile}
 use Rattle.iso_cli.specs.Rests.{LeavesMeshFile, LeavesTableFile}
 
 -- what a command reads, needs, refuses and puts: the names of its files; that the files hold what it needs; that they are refused with a status;
@@ -64,3 +64,12 @@ meaning (extract_command table grid iso) = record {
   puts = λ files text. IsMeshText files table grid iso text;
 }
 meaning (demo_command kind d size seed) = unbuilt
+-- version 2 of the table, whether or not it is accepted
+meaning (convert_command table) = record {
+  reads = table ∷ [];
+  needs = λ files. (t : Table) × HoldsTable files table t;
+  refuses = λ files status. IsRefusedFile files table IsRefusedForm status;
+  leaves = λ files status rest. LeavesTableFile files table rest status;
+  lacks = λ files. bytes_of files table ≡ None;
+  puts = λ files text. IsConverted files table text;
+}

@@ -15,11 +15,12 @@ use Rattle.iso_model.specs.Neighbours.{OnOuterBoundary, ends_of}
 use Rattle.iso_formats.specs.MeshText.{mesh_text}
 use Rattle.iso_model.specs.Placed.{placed_mesh}
 use Rattle.iso_formats.specs.TableFile.{table_bytes}
+use Rattle.iso_formats.specs.TableFile2.{table_bytes2}
 use Rattle.iso_model.specs.Tables.{Table}
 use Rattle.iso_model.specs.Values.{Grid, IsRegularGrid, Volume, volume}
 use Rattle.iso_cli.specs.declared.status.Status.{Status}
 use Rattle.iso_cli.specs.declared.status.Status.TheVariants as Statuses
-use Rattle.iso_cli.specs.Refusals.{HoldBoth, HoldsAccepted}
+use Rattle.iso_cli.specs.Refusals.{HoldBoth, HoldsAccepted, HoldsTable}
 use Rattle.iso_cli.specs.Statuses.{IsRefusal}
 
 -- the text of the placed mesh of a table in a grid at an isovalue
@@ -45,6 +46,10 @@ accepted_line = codes "accepted" ++ 10 ∷ []
 -- the line for the accepted table that the file of this name holds
 abbrev pub IsAcceptance : Option Files → List ℕ → List ℕ → Type 0
 IsAcceptance files table text = (t : Table) × HoldsAccepted files table t × (text ≡ accepted_line)
+
+-- the bytes of version 2 of the table that the file of this name holds, whichever version that has and whether or not the table is accepted
+abbrev pub IsConverted : Option Files → List ℕ → List ℕ → Type 0
+IsConverted files table text = (t : Table) × HoldsTable files table t × (text ≡ table_bytes2 t)
 
 -- a face of a simplex lies on the boundary exactly where the ends of its edges lie on the outer boundary of the grid
 abbrev pub HasOuterBoundary : Volume → List (List ℕ) → Type 0

@@ -7,7 +7,7 @@ use Rattle.iso_formats.specs.GridFaults.{GridFault, HasHeaderFault, HasSampleFau
 use Rattle.iso_formats.specs.GridFaults.{repeated_field, wrong_type, wrong_dimension, wrong_sizes, wrong_encoding, wrong_endian, wrong_skip}
 use Rattle.iso_formats.specs.GridFaults.{detached_data, missing_field, sizes_too_large, data_too_short, data_trailing}
 use Rattle.iso_model.specs.Tables.{Table, IsTable}
-use Rattle.iso_formats.specs.TableFile.{IsTooLong, SpellsTable, TableFault, HasTableFault, magic_fault, kind_fault, edge_fault, short_fault, extra_fault}
+use Rattle.iso_formats.specs.TableFile2.{IsFileTooLong, IsTableFile, FileFault, HasFileFault, at_magic, at_kind, at_edge, at_short, at_extra, at_index, at_count}
 use Rattle.iso_model.specs.Values.{Grid}
 use Rattle.iso_cli.specs.declared.status.Status.{Status}
 use Rattle.iso_cli.specs.declared.status.Status.TheVariants as Statuses
@@ -26,23 +26,25 @@ IsRefusedFile files name IsRefused status = FileHas files name (λ bytes. IsRefu
 
 -- ---- the form of a table file
 
--- the bytes are the file of the table: those that spell it, and not too many
+-- the bytes are the file of the table: those that spell it in one of the versions, and not too many
 pub record IsFileOf (bytes : List ℕ) (t : Table) : Type 0 where
-  pub few : ¬ IsTooLong bytes
-  pub spelled : SpellsTable bytes t
+  pub few : ¬ IsFileTooLong bytes
+  pub spelled : IsTableFile bytes t
 
 -- the refusal of bytes that have this fault
-abbrev pub table_refusal : TableFault → Status
-table_refusal (magic_fault place) = Statuses.TableForm (Forms.Fault place TableCauses.Magic)
-table_refusal (kind_fault place) = Statuses.TableForm (Forms.Fault place TableCauses.Kind)
-table_refusal (edge_fault place) = Statuses.TableForm (Forms.Fault place TableCauses.EdgeNumber)
-table_refusal (short_fault place) = Statuses.TableForm (Forms.Fault place TableCauses.Short)
-table_refusal (extra_fault place) = Statuses.TableForm (Forms.Fault place TableCauses.Extra)
+abbrev pub table_refusal : FileFault → Status
+table_refusal (at_magic place) = Statuses.TableForm (Forms.Fault place TableCauses.Magic)
+table_refusal (at_kind place) = Statuses.TableForm (Forms.Fault place TableCauses.Kind)
+table_refusal (at_edge place) = Statuses.TableForm (Forms.Fault place TableCauses.EdgeNumber)
+table_refusal (at_short place) = Statuses.TableForm (Forms.Fault place TableCauses.Short)
+table_refusal (at_extra place) = Statuses.TableForm (Forms.Fault place TableCauses.Extra)
+table_refusal (at_index place) = Statuses.TableForm (Forms.Fault place TableCauses.Index)
+table_refusal (at_count place) = Statuses.TableForm (Forms.Fault place TableCauses.Count)
 
 -- the bytes are the file of no table: there are too many, or else they have a fault
 pub data IsRefusedForm (bytes : List ℕ) : Status → Type 0 where
-  too_long : IsTooLong bytes → IsRefusedForm bytes (Statuses.TableForm Forms.Long)
-  no_table : (fault : TableFault) → ¬ IsTooLong bytes → HasTableFault bytes fault → IsRefusedForm bytes (table_refusal fault)
+  too_long : IsFileTooLong bytes → IsRefusedForm bytes (Statuses.TableForm Forms.Long)
+  no_table : (fault : FileFault) → ¬ IsFileTooLong bytes → HasFileFault bytes fault → IsRefusedForm bytes (table_refusal fault)
 
 -- the file of this name is that of the table, whether it is accepted or not
 pub record HoldsTable (files : Option Files) (name : List ℕ) (t : Table) : Type 0 where

@@ -1,7 +1,8 @@
 -- What is left of the file that was read last, after a refusal or a fault.
-use Rattle.std.specs.Prelude.{◌≡◌, ◌⊎◌, ◌≤◌, ◌+◌, ◌++◌, ◌^◌, ℕ, List, [], drop, length, Option, Some, None, ⊤}
+use Rattle.std.specs.Prelude.{◌≡◌, ◌⊎◌, ◌+◌, ◌++◌, ℕ, List, [], drop, length, Option, Some, None, ⊤}
 use Rattle.iso_base.specs.Files.{Files, file_bytes}
 use Rattle.iso_formats.specs.GridFile.{Header, HasHeader}
+use Rattle.iso_formats.specs.TableFile2.{IsFileTooLong, limit_of}
 use Rattle.iso_model.specs.Tables.{Table}
 use Rattle.nrrd_raw.specs.Undecided.{IsOpenData, IsOpenHeader}
 use Rattle.iso_cli.specs.declared.status.Status.{Status}
@@ -12,9 +13,9 @@ use Rattle.iso_cli.specs.Statuses.{IsShelfFault}
 
 -- ---- what is left after a refusal
 
--- of a table file that is too long all is left but its first 2^30 + 1 bytes
+-- of a table file that is too long all is left but its first bytes, one more than its limit
 abbrev pub LeavesLongTable : Option Files → List ℕ → Status → Option (List ℕ) → Type 0
-LeavesLongTable files name (Statuses.TableForm Forms.Long) rest = FileHas files name (λ bytes. rest ≡ Some (drop (2 ^ 30 + 1) bytes))
+LeavesLongTable files name (Statuses.TableForm Forms.Long) rest = FileHas files name (λ bytes. rest ≡ Some (drop (limit_of bytes + 1) bytes))
 LeavesLongTable files name status rest = ⊤
 
 -- all is left that stands behind the header of these bytes
@@ -35,9 +36,9 @@ IsTakenFrom None name rest P = ⊤
 IsTakenFrom (Some files) name rest P =
     (rest ≡ Some []) ⊎ ((front : List ℕ) × (left : List ℕ) × (file_bytes files name ≡ Some (front ++ left)) × (rest ≡ Some left) × P front)
 
--- so many bytes of a table file may be all of it
+-- these first bytes of a table file may be all of it
 abbrev pub IsOpenTable : List ℕ → Type 0
-IsOpenTable bytes = length bytes ≤ 2 ^ 30
+IsOpenTable bytes = ¬ IsFileTooLong bytes
 
 -- for a table of dimension d, bytes of a grid file decide nothing: they can still begin a header that is not ended, or they begin with a header of
 -- this dimension, and nothing is decided by what stands behind it

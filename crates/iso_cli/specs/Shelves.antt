@@ -19,9 +19,13 @@ BlamesShelf status before now = IsFairBlame before now (blame_of status)
 abbrev pub FailsOnlyFor : {T : Type 0} → Type 0 → Type 0 → Result T Status → Type 0
 FailsOnlyFor Lacks sound result = sound → IfErr result (λ status. IsShelfFault status → Lacks)
 
+-- a fault of the shelf is answered only where this holds of the bytes that were taken
+abbrev pub BlamesWhile : (List ℕ → Type 0) → Option (List ℕ) → Option (List ℕ) → Status → Type 0
+BlamesWhile P old new status = IsShelfFault status → TakesSuch P old new
+
 -- a fault of the shelf is answered only where fewer bytes than these were taken
 abbrev pub BlamesBefore : ℕ → Option (List ℕ) → Option (List ℕ) → Status → Type 0
-BlamesBefore most old new status = IsShelfFault status → TakesSuch (λ bytes. length bytes < most) old new
+BlamesBefore most old new status = BlamesWhile (λ bytes. length bytes < most) old new status
 
 -- these are all known bytes, or the first so many of them
 abbrev pub AreFrontOf : ℕ → Option (List ℕ) → List ℕ → Type 0

@@ -16,6 +16,8 @@ table_status (TableFaults.Kind place) = Statuses.TableForm (Forms.Fault place Ta
 table_status (TableFaults.EdgeNumber place) = Statuses.TableForm (Forms.Fault place TableCauses.EdgeNumber)
 table_status (TableFaults.Short place) = Statuses.TableForm (Forms.Fault place TableCauses.Short)
 table_status (TableFaults.Extra place) = Statuses.TableForm (Forms.Fault place TableCauses.Extra)
+table_status (TableFaults.Index place) = Statuses.TableForm (Forms.Fault place TableCauses.Index)
+table_status (TableFaults.Count place) = Statuses.TableForm (Forms.Fault place TableCauses.Count)
 table_status TableFaults.Memory = Statuses.Memory
 
 -- the status of a fault of a grid file

@@ -40,6 +40,8 @@ table_cause_name TableCauses.Kind = codes "kind"
 table_cause_name TableCauses.EdgeNumber = codes "edge number"
 table_cause_name TableCauses.Short = codes "short"
 table_cause_name TableCauses.Extra = codes "extra"
+table_cause_name TableCauses.Index = codes "index"
+table_cause_name TableCauses.Count = codes "count"
 
 -- the line of a file that is no table
 abbrev pub table_line : TableForm → List ℕ

@@ -1,17 +1,19 @@
 //! The table and the grid that the words name.
 
-ghost use Rattle.std.specs.Prelude.{◌≡◌, length, None, IfOk, IfErr};
+ghost use Rattle.std.specs.Prelude.{◌≡◌, ◌+◌, ◌≤◌, length, None, IfOk, IfErr};
+ghost use Rattle.std.specs.Io.KnownBytes.{Consumes};
 ghost use Rattle.iso_base.specs.Files.{bytes_of};
 ghost use Rattle.iso_base.specs.Shelves.{IsSameShelf};
 ghost use Rattle.iso_formats.specs.GridFile.{SpellsGrid};
+ghost use Rattle.iso_formats.specs.TableFile2.{limit_of};
 ghost use Rattle.iso_model.specs.Values.{IsRegularGrid};
 ghost use Rattle.table_file.specs.Reading.{table_in};
 ghost use Rattle.iso_cli.specs.Checked.{checked_in};
 ghost use Rattle.iso_cli.specs.Refusals.{FileHas, HoldBoth, HoldsAccepted, HoldsTable, LacksMeshFile};
 ghost use Rattle.iso_cli.specs.Refusals.{IsRefusedFile, IsRefusedForm, IsRefusedGrid, IsRefusedMesh, IsRefusedTable};
-ghost use Rattle.iso_cli.specs.Rests.{LeavesGridFile, LeavesMeshFile, LeavesTableFile};
-ghost use Rattle.iso_cli.specs.Shelves.{BlamesShelf, FailsOnlyFor};
-ghost use Rattle.iso_cli.specs.Statuses.{IfDecided, IsOfFiles, IsOfForm, IsOfGrid, IsOfTable};
+ghost use Rattle.iso_cli.specs.Rests.{IsOpenTable, LeavesGridFile, LeavesMeshFile, LeavesTableFile};
+ghost use Rattle.iso_cli.specs.Shelves.{AreFrontOf, BlamesShelf, BlamesWhile, FailsOnlyFor};
+ghost use Rattle.iso_cli.specs.Statuses.{IfDecided, IsOfFiles, IsOfForm, IsOfGrid, IsOfReading, IsOfTable, IsShelfFault};
 
 use crate::checked::{CheckedTable, certify_any, dimension};
 use crate::read::read_front;
@@ -24,8 +26,42 @@ use table_file::{AnyTable, decode};
 /// The most bytes that a table file has.
 const TABLE_LIMIT: usize = 1 << 30;
 
+/// How many bytes more it may have in version 2.
+const MORE_IN_VERSION_2: usize = 1 << 20;
+
+/// The most bytes that a table file has which begins so.
+fn table_limit(bytes: &[u8]) -> usize
+    ensures { result ≡ limit_of bytes.now }
+{
+    if bytes.starts_with(b"HULLTAB2") {
+        TABLE_LIMIT + MORE_IN_VERSION_2
+    } else {
+        TABLE_LIMIT
+    }
+}
+
+/// Reads what is left of the table file that was begun, up to one byte past its limit.
+fn read_to_limit<S: Shelf>(alloc: Global, shelf: &mut S) -> Result<Vec<u8>, Status>
+    ensures shelf { IsSameShelf S.faults S.files S.sound shelf.old shelf.new }
+    ensures fault { IfErr result (λ status. BlamesShelf status (S.faults shelf.old) (S.faults shelf.new)) }
+    ensures sound { S.sound shelf.old → IfErr result (λ status. ¬ IsShelfFault status) }
+    ensures refused { IfErr result IsOfReading }
+    ensures undecided { IfErr result (BlamesWhile IsOpenTable (S.rest shelf.old) (S.rest shelf.new)) }
+    ensures came { IfOk result (λ bytes. Consumes (S.rest shelf.old) (S.rest shelf.new) bytes.items) }
+    ensures front { IfOk result (λ bytes. AreFrontOf (limit_of bytes.items + 1) (S.rest shelf.old) bytes.items) }
+    ensures few { IfOk result (λ bytes. length bytes.items ≤ limit_of bytes.items + 1) }
+{
+    let mut bytes = read_front(alloc, shelf, TABLE_LIMIT + 1)?;
+    if bytes.len() <= TABLE_LIMIT {
+        return Ok(bytes);
+    }
+    let more = read_front(alloc, shelf, table_limit(&bytes) - TABLE_LIMIT)?;
+    bytes.extend_from_slice(&more)?;
+    Ok(bytes)
+}
+
 /// Reads the table of a file, whether it is accepted or not.
-fn read_table<S: Shelf>(alloc: Global, shelf: &mut S, name: &str) -> Result<AnyTable, Status>
+pub fn read_table<S: Shelf>(alloc: Global, shelf: &mut S, name: &str) -> Result<AnyTable, Status>
     ensures shelf { IsSameShelf S.faults S.files S.sound shelf.old shelf.new }
     ensures blamed { IfErr result (λ status. BlamesShelf status (S.faults shelf.old) (S.faults shelf.new)) }
     ensures missing { FailsOnlyFor (bytes_of (S.files shelf.old) name.now ≡ None) (S.sound shelf.old) result }
@@ -35,8 +71,8 @@ fn read_table<S: Shelf>(alloc: Global, shelf: &mut S, name: &str) -> Result<AnyT
     ensures held { IfOk result (λ table. HoldsTable (S.files shelf.old) name.now (table_in table)) }
 {
     shelf.begin(name)?;
-    let bytes = read_front(alloc, shelf, TABLE_LIMIT + 1)?;
-    if bytes.len() > TABLE_LIMIT {
+    let bytes = read_to_limit(alloc, shelf)?;
+    if bytes.len() > table_limit(&bytes) {
         return Err(Status::TableForm(TableForm::Long));
     }
     Ok(decode(alloc, &bytes)?)

@@ -4,13 +4,8 @@ ghost use Rattle.std.specs.Prelude.{ℕ, List};
 ghost use Rattle.iso_base.specs.Files.{Files};
 ghost use Rattle.iso_cli.specs.OneAnswer.{HaveOneAnswer, LackWhereRefused};
 
-use table_file::{one_fault_law, wrong_edge_law};
-
 /// Words and told files decide at most one refusal, and none where the files hold what the words need.
 pub fn one_answer_law()
     ensures one { (files : Files) (words : List (List ℕ)) → HaveOneAnswer files words }
     ensures lack { (files : Files) (words : List (List ℕ)) → LackWhereRefused files words }
-{
-    one_fault_law();
-    wrong_edge_law();
-}
+{}

@@ -59,6 +59,8 @@ fn table_cause(cause: TableCause) -> &'static str
         TableCause::EdgeNumber => "edge number",
         TableCause::Short => "short",
         TableCause::Extra => "extra",
+        TableCause::Index => "index",
+        TableCause::Count => "count",
     }
 }
 

@@ -3,6 +3,8 @@
 ghost use Rattle.std.specs.Prelude.{◌≡◌, ◌^◌, ◌≤◌, length, unsigned_abs, IfOk};
 ghost use Rattle.iso_model.specs.Cells.{HasDimension};
 ghost use Rattle.iso_model.specs.Values.{IsRegularGrid};
+ghost use Rattle.iso_formats.specs.TableFile2.{table_bytes2};
+ghost use Rattle.table_file.specs.Reading.{table_in};
 ghost use Rattle.iso_cli.specs.Checked.{checked_in};
 ghost use Rattle.iso_cli.specs.Outputs.{IsGenerated, IsPlacedText, LeavesOutput, accepted_line};
 ghost use Rattle.iso_cli.specs.Statuses.{IsOfPutting};
@@ -17,7 +19,7 @@ use nrrd_raw::Grid;
 use off_write::write_mesh;
 use std::alloc::Global;
 use table_check::Checked;
-use table_file::encode;
+use table_file::{AnyTable, encode, encode2};
 use table_make::make;
 
 /// Puts the line for an accepted table.
@@ -74,6 +76,29 @@ fn made_bytes<C: Cell<D>, const D: usize>(alloc: Global) -> Result<Vec<u8>, Memo
 {
     let table = make::<C, D>(alloc)?;
     encode(alloc, &table)
+}
+
+/// Puts the bytes of a table in version 2.
+pub fn put_version_2<O: Sink>(alloc: Global, table: &AnyTable, out: &mut O) -> Status
+    ensures kinds { IsOfPutting result }
+    ensures output { LeavesOutput O.faults O.bytes
+        (λ text. text ≡ table_bytes2 (table_in table.now)) result out.old out.new }
+{
+    match version_2(alloc, table) {
+        Ok(bytes) => put_bytes(bytes.as_slice(), out),
+        Err(Memory) => Status::Memory,
+    }
+}
+
+// The bytes of a table in version 2.
+fn version_2(alloc: Global, table: &AnyTable) -> Result<Vec<u8>, Memory>
+    ensures { IfOk result (λ bytes. bytes.items ≡ table_bytes2 (table_in table.now)) }
+{
+    match table {
+        AnyTable::T2(table) => encode2(alloc, table),
+        AnyTable::T3(table) => encode2(alloc, table),
+        AnyTable::T4(table) => encode2(alloc, table),
+    }
 }
 
 /// Puts the text of the mesh of a grid, by a table of its dimension, at an isovalue.

@@ -2,21 +2,20 @@
 
 ghost use Rattle.std.specs.Prelude.{◌≡◌, ◌^◌, ◌≤◌, IsSome, unsigned_abs};
 ghost use Rattle.iso_base.specs.Faults.{Rose};
-ghost use Rattle.iso_formats.specs.Commands.{check_command, extract_command};
+ghost use Rattle.iso_formats.specs.Commands.{check_command, convert_command, extract_command};
 ghost use Rattle.iso_words.specs.Built.{EachSaid, texts};
 ghost use Rattle.iso_cli.specs.Outputs.{LeavesOutput};
 ghost use Rattle.iso_cli.specs.Runs.{HoldNeeded, IsAnswerable, IsOutput, IsTrueAnswer, IsTrueOf, LacksFile, SayBuilt};
 ghost use Rattle.iso_cli.specs.Runs.{LeavesRest, LeavesShelf, NeedsNoFile, PutsLine, ServesWell};
 ghost use Rattle.iso_cli.specs.Statuses.{IsDoneOrMemory, IsUsage};
 
-use crate::files::{read_both, read_checked};
+use crate::files::{read_both, read_checked, read_table};
 use crate::line::status_text;
-use crate::output::{put_accepted, put_mesh, put_table};
+use crate::output::{put_accepted, put_mesh, put_table, put_version_2};
 use crate::status::Status;
 use iso_base::{Shelf, Sink, put_all};
 use iso_words::{Command, WrongWord, parse};
 use std::alloc::Global;
-use table_file::wrong_edge_law;
 
 /// Does what the words ask, and puts the line of the status to `err`, unless it is `Done`.
 ///
@@ -54,8 +53,6 @@ pub fn run<S: Shelf, O: Sink, E: Sink>(
 
     ensures line { PutsLine E.faults E.bytes result err.old err.new }
 {
-    // By this law the bytes of a table have no fault; it does nothing.
-    wrong_edge_law();
     let status = perform(alloc, words, shelf, out);
     if status != Status::Done {
         let text = status_text(&status);
@@ -78,6 +75,7 @@ fn perform<S: Shelf, O: Sink>(alloc: Global, words: &[String], shelf: &mut S, ou
         Ok(Command::Generate { kind, dim }) => put_table(alloc, kind, dim, out),
         Ok(Command::Check { table }) => check(alloc, table, shelf, out),
         Ok(Command::Extract { table, grid, iso }) => extract(alloc, table, grid, iso, shelf, out),
+        Ok(Command::Convert { table }) => convert(alloc, table, shelf, out),
         Err(WrongWord(place)) => Status::Usage(place),
     }
 }
@@ -94,6 +92,22 @@ fn check<S: Shelf, O: Sink>(alloc: Global, table: &str, shelf: &mut S, out: &mut
 {
     match read_checked(alloc, shelf, table) {
         Ok(_) => put_accepted(out),
+        Err(status) => status,
+    }
+}
+
+// Puts the table of a file in version 2, whether or not it is accepted.
+fn convert<S: Shelf, O: Sink>(alloc: Global, table: &str, shelf: &mut S, out: &mut O) -> Status
+    ensures known { ¬ IsUsage result }
+    ensures answer { IsTrueOf (S.files shelf.old) result (convert_command table.now) }
+    ensures shelf { LeavesShelf S.faults S.files S.sound
+        (LacksFile (S.files shelf.old) (convert_command table.now)) result shelf.old shelf.new }
+    ensures output { LeavesOutput O.faults O.bytes
+        (λ text. IsOutput (S.files shelf.old) text (convert_command table.now)) result out.old out.new }
+    ensures left { LeavesRest (S.files shelf.old) result (S.rest shelf.new) (convert_command table.now) }
+{
+    match read_table(alloc, shelf, table) {
+        Ok(table) => put_version_2(alloc, &table, out),
         Err(status) => status,
     }
 }

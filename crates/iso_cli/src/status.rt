@@ -41,9 +41,9 @@ pub enum Status {
 /// Why a file is no table.
 #[derive(Clone, Copy, Debug, PartialEq, Eq, Drop)]
 pub enum TableForm {
-    /// It has more than 2^30 bytes.
+    /// It has more than 2^30 bytes, or where it begins as one of version 2, more than 2^20 bytes beyond that.
     Long,
-    /// Its bytes are those of no table: the first place at which none goes on, counted from 0, and what is wrong there.
+    /// Its bytes are those of no table: the place of the fault, counted from 0, and what is wrong there.
     Fault { place: u64, cause: TableCause },
 }
 
@@ -60,6 +60,10 @@ pub enum TableCause {
     Short,
     /// A whole table ended just before.
     Extra,
+    /// In version 2 the number of records, a label or an offset.
+    Index,
+    /// In version 2 the count of a body.
+    Count,
 }
 
 /// Why a file is no grid. Numbers of lines are counted from 1.
@@ -174,6 +178,14 @@ impl From<TableFault> for Status {
             TableFault::Extra(place) => Status::TableForm(TableForm::Fault {
                 place,
                 cause: TableCause::Extra,
+            }),
+            TableFault::Index(place) => Status::TableForm(TableForm::Fault {
+                place,
+                cause: TableCause::Index,
+            }),
+            TableFault::Count(place) => Status::TableForm(TableForm::Fault {
+                place,
+                cause: TableCause::Count,
             }),
             TableFault::Memory => Status::Memory,
         }

@@ -5,8 +5,9 @@ use iso_base::{MemFile, MemShelf, MemSink};
 use std::alloc::{AllocError, Global};
 use std::process::Abort;
 use std::test::Fail;
-use worked_tables::{SQUARE, TETRAHEDRON, TRIANGLE};
+use worked_tables::{SQUARE, SQUARE2, TETRAHEDRON, TRIANGLE};
 
+mod converted;
 mod generated;
 
 const HEADER: &str = "NRRD0001\ntype: uint8\ndimension: 2\nsizes: 2 2\nencoding: raw\n\n";
@@ -415,6 +416,7 @@ const fn accepts<'a>(table: [&'a [u8]; 3]) -> Case<'a> {
 fn tables_are_accepted_or_refused(rt: HostRuntime) -> Result<(), Fail> {
     let cases = [
         accepts([&SQUARE, &[], &[]]),
+        accepts([&SQUARE2, &[], &[]]),
         // the ambiguous square joined the other way
         accepts([&SQUARE[..54], &[2, 0, 1, 3], &SQUARE[58..]]),
         // the other diagonal in entry 3

@@ -8,7 +8,7 @@ use Rattle.lists.specs.Orders.{same_list}
 use Rattle.std.proofs.lemmas.List.Sums.{AllPass-from_list_all}
 use Rattle.iso_model.specs.declared.Kind.TheVariants.{Cube, Simplex, Pyramid}
 use Rattle.iso_formats.specs.Commands.{is_number, has_key_of, IsNumber, Say, IsWrongWord, Command, generate_command, check_command, extract_command}
-use Rattle.iso_formats.specs.Commands.{demo_command, each_command, size_limit, iso_limit}
+use Rattle.iso_formats.specs.Commands.{demo_command, convert_command, each_command, size_limit, iso_limit}
 
 leading_zero : IsFalse (is_number (codes "05"))
 leading_zero = refl
@@ -81,6 +81,7 @@ padded_words = codes "extract" ∷ codes "table=a" ∷ codes "grid=b" ∷ codes 
 padded_never : (more : List (List ℕ)) (c : Command) → Say (padded_words ++ more) c → ⊥
 padded_never more (generate_command kind d) s = another refl s.are_for.named.1
 padded_never more (check_command table) s = another refl s.are_for.named.1
+padded_never more (convert_command table) s = another refl s.are_for.named.1
 padded_never more (demo_command kind d size seed) s = another refl s.are_for.named.1
 padded_never more (extract_command table grid iso) s =
     let e = head_same _ _ _ _ s.iso_is.1 in
@@ -113,6 +114,7 @@ same_number a b e = cc
 large_never : (more : List (List ℕ)) (c : Command) → Say (large_words ++ more) c → ⊥
 large_never more (generate_command kind d) s = another refl s.are_for.named.1
 large_never more (check_command table) s = another refl s.are_for.named.1
+large_never more (convert_command table) s = another refl s.are_for.named.1
 large_never more (extract_command table grid iso) s = another refl s.are_for.named.1
 large_never more (demo_command Cube d size seed) s = absurd (omega (arith, ap (λ (l : List ℕ). slice_index l 0) (head_same _ _ _ _ s.kind_is)))
 large_never more (demo_command Simplex d size seed) s = absurd (omega (arith, ap (λ (l : List ℕ). slice_index l 0) (head_same _ _ _ _ s.kind_is)))
@@ -145,6 +147,7 @@ large_word = record {
 nothing_never : (c : Command) → Say [] c → ⊥
 nothing_never (generate_command kind d) s = let e = s.are_for.named.1 in cc
 nothing_never (check_command table) s = let e = s.are_for.named.1 in cc
+nothing_never (convert_command table) s = let e = s.are_for.named.1 in cc
 nothing_never (demo_command kind d size seed) s = let e = s.are_for.named.1 in cc
 nothing_never (extract_command table grid iso) s = let e = s.are_for.named.1 in cc
 
@@ -162,6 +165,7 @@ early_words = codes "extract" ∷ codes "table=a" ∷ codes "grid=b" ∷ []
 early_never : (c : Command) → Say early_words c → ⊥
 early_never (generate_command kind d) s = another refl s.are_for.named.1
 early_never (check_command table) s = another refl s.are_for.named.1
+early_never (convert_command table) s = another refl s.are_for.named.1
 early_never (demo_command kind d size seed) s = another refl s.are_for.named.1
 early_never (extract_command table grid iso) s = absurd (omega (arith, ap length s.iso_is.1))
 
@@ -179,6 +183,7 @@ great_words = codes "extract" ∷ codes "table=a" ∷ codes "grid=b" ∷ codes "
 great_never : (more : List (List ℕ)) (c : Command) → Say (great_words ++ more) c → ⊥
 great_never more (generate_command kind d) s = another refl s.are_for.named.1
 great_never more (check_command table) s = another refl s.are_for.named.1
+great_never more (convert_command table) s = another refl s.are_for.named.1
 great_never more (demo_command kind d size seed) s = another refl s.are_for.named.1
 great_never more (extract_command table grid iso) s =
     let v = ap (signed_digits_value 10) (head_same _ _ _ _ s.iso_is.1) ∙ s.iso_is.2.1 in
@@ -198,6 +203,7 @@ flat_words = codes "generate" ∷ codes "dim=2" ∷ codes "kind=pyramid" ∷ []
 
 flat_never : (more : List (List ℕ)) (c : Command) → Say (flat_words ++ more) c → ⊥
 flat_never more (check_command table) s = another refl s.are_for.named.1
+flat_never more (convert_command table) s = another refl s.are_for.named.1
 flat_never more (extract_command table grid iso) s = another refl s.are_for.named.1
 flat_never more (demo_command kind d size seed) s = another refl s.are_for.named.1
 flat_never more (generate_command Cube d) s = absurd (omega (arith, ap (λ (l : List ℕ). slice_index l 0) (head_same _ _ _ _ s.kind_is)))

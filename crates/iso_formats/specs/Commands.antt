@@ -60,6 +60,7 @@ pub data Command : Type 0 where
   check_command : List ℕ → Command
   extract_command : List ℕ → List ℕ → ℤ → Command
   demo_command : Kind → ℕ → ℕ → ℕ → Command
+  convert_command : List ℕ → Command
 
 -- the word of a kind
 abbrev pub kind_name : Kind → List ℕ
@@ -110,12 +111,18 @@ pub record SayDemo (words : List (List ℕ)) (kind : Kind) (d size seed : ℕ) :
   pub seed_is : GivesNumber words (codes "seed") (pos seed)
   pub seed_to : seed ≤ 4294967295
 
+-- the words of convert
+pub record SayConvert (words : List (List ℕ)) (table : List ℕ) : Type 0 where
+  pub are_for : AreFor words (codes "convert") (codes "table" ∷ [])
+  pub table_is : GivesFile words (codes "table") table
+
 -- the words say the command
 abbrev pub Say : List (List ℕ) → Command → Type 0
 Say words (generate_command kind d) = SayGenerate words kind d
 Say words (check_command table) = SayCheck words table
 Say words (extract_command table grid iso) = SayExtract words table grid iso
 Say words (demo_command kind d size seed) = SayDemo words kind d size seed
+Say words (convert_command table) = SayConvert words table
 
 -- ---- right lists, for a program that has some of the commands
 

@@ -11,9 +11,9 @@ use Rattle.std.proofs.lemmas.List.Sums.{AllPass-from_list_all}
 use Rattle.iso_model.specs.declared.Kind.{Kind as CellKind}
 use Rattle.iso_model.specs.declared.Kind.TheVariants.{Cube, Simplex, Pyramid}
 use Rattle.iso_model.specs.Cells.{HasDimension}
-use Rattle.iso_formats.specs.Commands.{value_for, generate_command, check_command, extract_command, has_key_of, BeginRight}
+use Rattle.iso_formats.specs.Commands.{value_for, generate_command, check_command, extract_command, convert_command, has_key_of, BeginRight}
 use Rattle.iso_words.specs.declared.keys.CommandName.{CommandName}
-use Rattle.iso_words.specs.declared.keys.CommandName.TheVariants.{Generate, Check, Extract}
+use Rattle.iso_words.specs.declared.keys.CommandName.TheVariants.{Generate, Check, Extract, Convert}
 use Rattle.iso_words.specs.declared.given.Given.{Given}
 use Rattle.iso_words.specs.Built.{is_built}
 use Rattle.iso_words.specs.declared.keys.Key.{Key}
@@ -24,7 +24,7 @@ use Rattle.lists.proofs.MemberLaws.{lists_equal}
 use Rattle.iso_words.proofs.KeyLemmas.{value_for-other, has_key_of-key}
 use Rattle.iso_words.specs.Given.{IsKind, IsDimension, IsFile, IsIsovalue, Fit, values_of, Stood, Gave}
 use Rattle.iso_words.proofs.StoodLemmas.{values_of-append}
-use Rattle.iso_words.proofs.RightLemmas.{SayGenerate-given, SayCheck-given, SayExtract-given}
+use Rattle.iso_words.proofs.RightLemmas.{SayGenerate-given, SayCheck-given, SayExtract-given, SayConvert-given}
 
 -- a word for a key that is missing
 abbrev fill : Bool → List ℕ → List (List ℕ)
@@ -157,8 +157,18 @@ begin_extract further given g =
     (after_fills IsIsovalue given.iso (codes "iso") rows further (codes "0") (pos 0) an_isovalue (append-nil _) (g.stood Iso)) in
     (fills rows, (extract_command (standing table (codes "a")) (standing grid (codes "a")) (standing given.iso (pos 0)), refl, said))
 
+begin_convert : (further : List (List ℕ)) (given : Given) → Gave Convert further given → BeginRight is_built (codes "convert" ∷ further)
+begin_convert further given g =
+    let table = option_copied given.table in
+    let rows = (Table, is_some table, codes "a") ∷ [] in
+    let said =
+    SayConvert-given (further ++ fills rows) (standing table (codes "a")) (keyed_on Convert rows further refl g.keyed)
+    (after_fills IsFile table (codes "table") rows further (codes "a") (codes "a") a_file (append-nil _) (g.stood Table)) in
+    (fills rows, (convert_command (standing table (codes "a")), refl, said))
+
 -- some right list begins with the name of a command and words that gave right values
 pub BeginRight-given : (name : CommandName) (further : List (List ℕ)) (given : Given) → Gave name further given → BeginRight is_built (name_text name ∷ further)
 BeginRight-given Generate further given g = begin_generate further given g
 BeginRight-given Check further given g = begin_check further given g
 BeginRight-given Extract further given g = begin_extract further given g
+BeginRight-given Convert further given g = begin_convert further given g

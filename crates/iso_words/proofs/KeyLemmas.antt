@@ -9,7 +9,7 @@ use Rattle.iso_formats.specs.Commands.{value_for, has_key_of}
 use Rattle.iso_words.specs.declared.keys.Key.{Key}
 use Rattle.iso_words.specs.declared.keys.Key.TheVariants.{Kind, Dim, Table, Grid, Iso}
 use Rattle.iso_words.specs.declared.keys.CommandName.{CommandName}
-use Rattle.iso_words.specs.declared.keys.CommandName.TheVariants.{Generate, Check, Extract}
+use Rattle.iso_words.specs.declared.keys.CommandName.TheVariants.{Generate, Check, Extract, Convert}
 use Rattle.iso_words.specs.Keys.{key_text, name_text, own_keys, keys_of, has_key}
 
 some_test : {A : Type 0} (t : Bool) (x v : A) → cond t (Some x) None ≡ Some v → t ≡ true
@@ -102,12 +102,14 @@ every_name =
     Generate
     ∷ Check
     ∷ Extract
+    ∷ Convert
     ∷ []
 
 name_found : (name : CommandName) → with_word name_text (name_text name) every_name ≡ Some name
 name_found Generate = refl
 name_found Check = refl
 name_found Extract = refl
+name_found Convert = refl
 
 pub name_text-one : (m n : CommandName) → name_text m ≡ name_text n → m ≡ n
 name_text-one = one_word name_text every_name name_found

@@ -2,15 +2,16 @@
 use Rattle.std.specs.Prelude.{ℕ, Bool, true, false, List, map, IsTrue}
 use Rattle.std.specs.String.{string_bytes}
 use Rattle.std.specs.declared.string.String.{String}
-use Rattle.iso_formats.specs.Commands.{Command as Asked, Say, generate_command, check_command, extract_command}
+use Rattle.iso_formats.specs.Commands.{Command as Asked, Say, generate_command, check_command, extract_command, convert_command}
 use Rattle.iso_words.specs.declared.Command.{Command}
-use Rattle.iso_words.specs.declared.Command.TheVariants.{Generate, Check, Extract}
+use Rattle.iso_words.specs.declared.Command.TheVariants.{Generate, Check, Extract, Convert}
 
 -- the commands that are built
 abbrev pub is_built : Asked → Bool
 is_built (generate_command kind d) = true
 is_built (check_command table) = true
 is_built (extract_command table grid iso) = true
+is_built (convert_command table) = true
 is_built _ = false
 
 -- the bytes of each word
@@ -26,3 +27,4 @@ abbrev pub asked : Command → Asked
 asked (Generate kind dim) = generate_command kind dim
 asked (Check table) = check_command table.now
 asked (Extract table grid iso) = extract_command table.now grid.now iso
+asked (Convert table) = convert_command table.now

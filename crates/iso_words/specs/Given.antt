@@ -9,8 +9,8 @@ use Rattle.iso_model.specs.Cells.{HasDimension}
 use Rattle.iso_formats.specs.Commands.{BeginRight, Say, value_for, has_key_of, kind_name, IsNumber, iso_limit}
 use Rattle.iso_words.specs.Built.{asked, is_built}
 use Rattle.iso_words.specs.declared.Command.{Command}
-use Rattle.iso_words.specs.declared.Command.TheVariants.{Generate as generate, Check as check, Extract as extract}
-use Rattle.iso_words.specs.declared.keys.CommandName.TheVariants.{Generate, Check, Extract}
+use Rattle.iso_words.specs.declared.Command.TheVariants.{Generate as generate, Check as check, Extract as extract, Convert as convert}
+use Rattle.iso_words.specs.declared.keys.CommandName.TheVariants.{Generate, Check, Extract, Convert}
 use Rattle.iso_words.specs.Keys.{key_text, own_keys, keys_of, name_text}
 use Rattle.iso_words.specs.declared.keys.Key.{Key}
 use Rattle.iso_words.specs.declared.keys.Key.TheVariants.{Kind, Dim, Table, Grid, Iso}
@@ -88,12 +88,14 @@ abbrev pub name_of : Command → CommandName
 name_of (generate kind dim) = Generate
 name_of (check table) = Check
 name_of (extract table grid iso) = Extract
+name_of (convert table) = Convert
 
 -- the values of a command were given
 abbrev pub WereGiven : Given → Command → Type 0
 WereGiven given (generate kind dim) = (given.kind ≡ Some kind) × (given.dim ≡ Some dim)
 WereGiven given (check table) = given.table ≡ Some table
 WereGiven given (extract table grid iso) = (given.table ≡ Some table) × (given.grid ≡ Some grid) × (given.iso ≡ Some iso)
+WereGiven given (convert table) = given.table ≡ Some table
 
 -- the command of this name, with the values that were given
 abbrev pub IsWhole : CommandName → Given → Command → Type 0

@@ -6,7 +6,7 @@ use Rattle.iso_formats.specs.Commands.{value_for}
 use Rattle.iso_words.specs.declared.keys.Key.{Key}
 use Rattle.iso_words.specs.declared.keys.Key.TheVariants.{Kind, Dim, Table, Grid, Iso}
 use Rattle.iso_words.specs.declared.keys.CommandName.{CommandName}
-use Rattle.iso_words.specs.declared.keys.CommandName.TheVariants.{Generate, Check, Extract}
+use Rattle.iso_words.specs.declared.keys.CommandName.TheVariants.{Generate, Check, Extract, Convert}
 
 -- this holds of the answer, and where there is none, of nothing
 abbrev pub Finds : {V : Type 0} → (V → Type 0) → Option V → Type 0
@@ -25,12 +25,14 @@ abbrev pub name_text : CommandName → List ℕ
 name_text Generate = codes "generate"
 name_text Check = codes "check"
 name_text Extract = codes "extract"
+name_text Convert = codes "convert"
 
 -- a command's keys
 abbrev pub own_keys : CommandName → List Key
 own_keys Generate = Kind ∷ Dim ∷ []
 own_keys Check = Table ∷ []
 own_keys Extract = Table ∷ Grid ∷ Iso ∷ []
+own_keys Convert = Table ∷ []
 
 -- the words of a command's keys
 abbrev pub keys_of : CommandName → List (List ℕ)

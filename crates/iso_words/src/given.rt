@@ -75,6 +75,10 @@ impl<'a> Given<'a> {
                 (Some(table), Some(grid), Some(iso)) => Some(Command::Extract { table, grid, iso }),
                 _ => None,
             },
+            CommandName::Convert => match self.table {
+                Some(table) => Some(Command::Convert { table }),
+                None => None,
+            },
         }
     }
 }

@@ -6,6 +6,7 @@ pub(crate) enum CommandName {
     Generate,
     Check,
     Extract,
+    Convert,
 }
 
 impl CommandName {
@@ -22,6 +23,8 @@ impl CommandName {
             Some(CommandName::Check)
         } else if word == "extract" {
             Some(CommandName::Extract)
+        } else if word == "convert" {
+            Some(CommandName::Convert)
         } else {
             None
         }
@@ -35,6 +38,7 @@ impl CommandName {
             CommandName::Generate => matches!(key, Key::Kind | Key::Dim),
             CommandName::Check => matches!(key, Key::Table),
             CommandName::Extract => matches!(key, Key::Table | Key::Grid | Key::Iso),
+            CommandName::Convert => matches!(key, Key::Table),
         }
     }
 }

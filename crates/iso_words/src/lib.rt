@@ -8,6 +8,7 @@
 //! | `generate kind=K dim=N` | the table of the construction, of a kind and a dimension |
 //! | `check table=F` | whether the table of the file is accepted |
 //! | `extract table=F grid=F iso=N` | the mesh of the grid at the isovalue |
+//! | `convert table=F` | the table of the file in version 2 of the format |
 //!
 //! K is `cube`, `simplex` or `pyramid`, and F is a file name of at least one character. N is an optional `-` and
 //! digits, without a leading zero but `0` itself, and not `-0`. A dimension is 2, 3 or 4, and 3 with `pyramid`; an
@@ -43,6 +44,10 @@ pub enum Command<'a> {
         table: &'a str,
         grid: &'a str,
         iso: i64,
+    },
+    /// Put the table of a file in version 2 of the format.
+    Convert {
+        table: &'a str,
     },
 }
 

@@ -25,6 +25,10 @@ const fn extract<'a>(table: &'a str, grid: &'a str, iso: i64) -> Command<'a> {
     Command::Extract { table, grid, iso }
 }
 
+const fn convert(table: &str) -> Command<'_> {
+    Command::Convert { table }
+}
+
 #[test]
 fn right_words_say_their_command(rt: HostRuntime) -> Result<(), Fail> {
     let rows = [
@@ -48,6 +52,8 @@ fn right_words_say_their_command(rt: HostRuntime) -> Result<(), Fail> {
         ("check table==x=y", check("=x=y")),
         ("check table=A", check("A")),
         ("check table=größe.tab", check("größe.tab")),
+        ("convert table=a", convert("a")),
+        ("convert table=table=b", convert("table=b")),
         // each order of the keys
         ("extract table=a grid=b iso=1", extract("a", "b", 1)),
         ("extract table=a iso=1 grid=b", extract("a", "b", 1)),
@@ -80,7 +86,7 @@ fn right_words_say_their_command(rt: HostRuntime) -> Result<(), Fail> {
 }
 
 // Lines, and the number of the first word that is wrong.
-const WRONG_WORDS: [(&str, u32); 68] = [
+const WRONG_WORDS: [(&str, u32); 73] = [
     // commands
     ("", 1),
     (" ", 1),
@@ -110,6 +116,8 @@ const WRONG_WORDS: [(&str, u32); 68] = [
     ("extract grid=a grid=b", 3),
     ("extract iso=1 iso=2", 3),
     ("extract table=a grid=b iso=0 iso=0", 5),
+    ("convert", 2),
+    ("convert table=a table=b", 3),
     // no key of the command
     ("generate table=a", 2),
     ("generate kind=cube dim=3 x", 4),
@@ -127,6 +135,8 @@ const WRONG_WORDS: [(&str, u32); 68] = [
     ("extract table=a grid=b iso", 4),
     ("extract table=a grid=b iso=1 x", 5),
     ("extract table=a grid=b iso=1 x y", 5),
+    ("convert grid=a", 2),
+    ("convert table=a table2=b", 3),
     // no right value
     ("generate kind=Cube", 2),
     ("generate kind=cube dim=1", 3),
@@ -140,6 +150,7 @@ const WRONG_WORDS: [(&str, u32); 68] = [
     ("generate dim=4 kind=pyramid", 3),
     // a file name or an isovalue
     ("check table=", 2),
+    ("convert table=", 2),
     ("extract table=a grid= iso=05", 3),
     ("extract table=a grid=b iso=05", 4),
     ("extract table=a grid=b iso=00", 4),

@@ -116,7 +116,7 @@ begins_count kind d bytes es place count r few small short e =
 
 -- ---- heads
 
-pub begins_head : (bytes : List ℕ) (place : ℕ) → place ≤ 16 → BeginsHead bytes place → BeginsTable (take place bytes)
+pub begins_head : (bytes : List ℕ) (place : ℕ) → place ≤ 16 → BeginsHead 1 bytes place → BeginsTable (take place bytes)
 begins_head bytes place h b =
     let t = table_of b.kind b.dimension ([] ++ filled (label_count b.kind b.dimension - 0)) in
     let is = filled_is_table b.kind b.dimension [] b.fits (All-nil (IsEntry b.kind b.dimension)) (omega arith) in (
@@ -129,7 +129,7 @@ begins_head bytes place h b =
     )
 
 -- what begins a table begins with a front of its head
-pub head_of_table : (bytes : List ℕ) (place : ℕ) → place ≤ 16 → place ≤ length bytes → BeginsTable (take place bytes) → BeginsHead bytes place
+pub head_of_table : (bytes : List ℕ) (place : ℕ) → place ≤ 16 → place ≤ length bytes → BeginsTable (take place bytes) → BeginsHead 1 bytes place
 head_of_table bytes place h inside b = record {
   kind = b.0.kind;
   dimension = b.0.dimension;
@@ -140,7 +140,7 @@ head_of_table bytes place h inside b = record {
       ∙ ap (λ (l : List ℕ). take place l) b.2.1 ∙ table_head b.0 place h;
 }
 
-pub stops_in_head_at : (bytes : List ℕ) (place : ℕ) → StopsInHead bytes place → place < length bytes → StopsAt bytes place
+pub stops_in_head_at : (bytes : List ℕ) (place : ℕ) → StopsInHead 1 bytes place → place < length bytes → StopsAt bytes place
 stops_in_head_at bytes place s inside = record {
   inside = inside;
   begun = begins_head bytes place (omega (arith, s.inside_head)) s.begun;

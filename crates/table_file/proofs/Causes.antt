@@ -7,10 +7,10 @@ use Rattle.iso_model.specs.declared.Kind.{Kind}
 use Rattle.iso_model.specs.Cells.{label_count}
 use Rattle.iso_formats.specs.TableFile.{table_bytes, big_endian, BeginsTable, CountPasses, IsWrongEdge}
 use Rattle.table_file.specs.declared.faults.TableFault.{TableFault}
-use Rattle.table_file.specs.declared.faults.TableFault.TheVariants.{Magic, Kind as KindFault, EdgeNumber, Short, Extra, Memory}
+use Rattle.table_file.specs.declared.faults.TableFault.TheVariants.{Magic, Kind as KindFault, EdgeNumber, Short, Extra, Index, Count, Memory}
 use Rattle.table_file.specs.Heads.{StopsInHead}
 use Rattle.table_file.specs.HeldEntries.{BeginsWithCount, HasWrongEdge, IsEntryFault}
-use Rattle.table_file.specs.Reading.{HasCause}
+use Rattle.table_file.specs.Reading.{HasFirstCause}
 use Rattle.table_file.proofs.HeadLaws.{not_whole-head}
 use Rattle.table_file.proofs.EntryLaws.{no_entry_cut, entry_begins}
 use Rattle.table_file.proofs.Progress.{table_of, HasRead, not_whole-entry}
@@ -147,17 +147,19 @@ wrong_edge_cause kind d bytes es place distance p r few w at =
     }
 
 pub entry_cause : (kind : Kind) (d : ℕ) (bytes : List ℕ) (es : List (List (List ℕ))) (place : ℕ) (fault : TableFault) → HasRead kind d bytes es place
-    → length es < label_count kind d → IsEntryFault kind d bytes place fault → HasCause bytes fault
+    → length es < label_count kind d → IsEntryFault kind d bytes place fault → HasFirstCause bytes fault
 entry_cause kind d bytes es place (Magic p) r few f = absurd f
 entry_cause kind d bytes es place (KindFault p) r few f = absurd f
 entry_cause kind d bytes es place (EdgeNumber p) r few f = wrong_edge_cause kind d bytes es place f.0 p r few f.2 f.1
-entry_cause kind d bytes es place (Short p) r few f = elim f.1 as (λ _. HasCause bytes (Short p)) [
+entry_cause kind d bytes es place (Short p) r few f = elim f.1 as (λ _. HasFirstCause bytes (Short p)) [
   | inl none ↦
       let never = not_whole-entry kind d bytes es place r few (λ g y s e. none (length g) (entry_begins kind d g (drop place bytes) y s e)) in
       elim (count_fault kind d bytes es place r few none) [ inl passes ↦ (f.0, inl passes) | inr begins ↦ (f.0, inr (begins, never)) ]
   | inr cut ↦ (f.0, inr (begins_cut kind d bytes es place r few cut, not_whole-entry kind d bytes es place r few (no_entry_cut kind d (drop place bytes) cut)))
 ]
 entry_cause kind d bytes es place (Extra p) r few f = absurd f
+entry_cause kind d bytes es place (Index p) r few f = absurd f
+entry_cause kind d bytes es place (Count p) r few f = absurd f
 entry_cause kind d bytes es place Memory r few f = tt
 
 -- the bytes up to the place
@@ -171,11 +173,11 @@ read_front kind d bytes es place r =
 
 pub extra_cause : (kind : Kind) (d : ℕ) (bytes : List ℕ) (es : List (List (List ℕ))) (place : ℕ) → HasRead kind d bytes es place
     → length es ≡ label_count kind d
-    → place < length bytes → HasCause bytes (Extra place)
+    → place < length bytes → HasFirstCause bytes (Extra place)
 extra_cause kind d bytes es place r all more =
     (more, (table_of kind d es, (record { fits = r.fits; whole = all; sound = r.sound }, read_front kind d bytes es place r)))
 
-pub head_short : (bytes : List ℕ) (place : ℕ) → StopsInHead bytes place → place ≡ length bytes → HasCause bytes (Short place)
+pub head_short : (bytes : List ℕ) (place : ℕ) → StopsInHead 1 bytes place → place ≡ length bytes → HasFirstCause bytes (Short place)
 head_short bytes place s end = (
   end,
   inr (
@@ -184,8 +186,8 @@ head_short bytes place s end = (
   ),
 )
 
-pub head_magic : (bytes : List ℕ) (place : ℕ) → StopsInHead bytes place → place < length bytes → place < 8 → HasCause bytes (Magic place)
+pub head_magic : (bytes : List ℕ) (place : ℕ) → StopsInHead 1 bytes place → place < length bytes → place < 8 → HasFirstCause bytes (Magic place)
 head_magic bytes place s inside h = (stops_in_head_at bytes place s inside, h)
 
-pub head_kind : (bytes : List ℕ) (place : ℕ) → StopsInHead bytes place → place < length bytes → 8 ≤ place → HasCause bytes (KindFault place)
+pub head_kind : (bytes : List ℕ) (place : ℕ) → StopsInHead 1 bytes place → place < length bytes → 8 ≤ place → HasFirstCause bytes (KindFault place)
 head_kind bytes place s inside h = (stops_in_head_at bytes place s inside, h, s.inside_head)

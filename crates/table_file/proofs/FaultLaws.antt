@@ -333,3 +333,21 @@ same_fault bytes (extra_fault p) (kind_fault q) a b = absurd (low_extra bytes q 
 same_fault bytes (extra_fault p) (edge_fault q) a b = absurd (edge_extra bytes q p b a)
 same_fault bytes (extra_fault p) (short_fault q) a b = absurd (short_extra bytes q p b a)
 same_fault bytes (extra_fault p) (extra_fault q) a b = ap extra_fault (extra_once bytes p q a b)
+
+-- ---- the file of a table has no fault
+
+pub whole_no_fault : (bytes : List ℕ) (fault : TableFault) → IsWholeTable bytes → HasTableFault bytes fault → ⊥
+whole_no_fault bytes (magic_fault p) w f = stops_begins bytes p f.0 (whole_begins bytes w)
+whole_no_fault bytes (kind_fault p) w f = stops_begins bytes p f.0 (whole_begins bytes w)
+whole_no_fault bytes (edge_fault p) w f = stops_begins bytes p (wrong_edge_stops bytes p f).0 (whole_begins bytes w)
+whole_no_fault bytes (short_fault p) w f = elim f.1 as (λ _. ⊥) [
+  | inl c ↦
+      let t = w.0 in
+      let split : bytes ≡ table_bytes t ++ [] = w.1.1 ∙ sym (append-nil (table_bytes t)) in
+      let s = same_entries t.kind t.dimension t.entries [] bytes c split in
+      passes_before t.kind t.dimension t.entries [] bytes c w.1.0.sound split (omega (arith, s.room, w.1.0.whole))
+  | inr b ↦ b.1 w
+]
+whole_no_fault bytes (extra_fault p) w f =
+    whole_below bytes p (length bytes) f.0 (omega arith) f.1
+    (subst BeginsTable (sym (take_all (length bytes) bytes (omega arith))) (whole_begins bytes w))

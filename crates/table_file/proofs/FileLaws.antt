@@ -1,9 +1,9 @@
 -- The file of a table, of either version, is the file of one table.
-use Rattle.std.specs.Prelude.{◌≡◌, ℕ, List, slice_index}
+use Rattle.std.specs.Prelude.{ℕ, List, slice_index}
 use Rattle.std.proofs.Common.{sym, ap, ◌∙◌, arith, inl, inr}
 use Rattle.iso_model.specs.Tables.{Table}
 use Rattle.iso_formats.specs.TableFile.{table_bytes, SpellsTable}
-use Rattle.iso_formats.specs.TableFile2.{table_bytes2, SpellsTable2, IsTableFile, HasOneTable}
+use Rattle.iso_formats.specs.TableFile2.{table_bytes2, SpellsTable2, HasOneTable}
 use Rattle.iso_formats.proofs.TableIndexLaws.{one_table2}
 use Rattle.table_file.proofs.WritingLaws.{spelled_once}
 

@@ -1,12 +1,12 @@
 -- The bytes of a table in version 2, record by record and body by body.
-use Rattle.std.specs.Prelude.{◌≡◌, ℕ, ◌+◌, ◌*◌, ◌^◌, ◌<◌, ◌≤◌, ◌==◌, Bool, false, List, [], ◌∷◌, ◌++◌, flat_map, length, take}
+use Rattle.std.specs.Prelude.{◌≡◌, ℕ, ◌+◌, ◌*◌, ◌<◌, ◌≤◌, ◌==◌, Bool, false, List, [], ◌∷◌, ◌++◌, flat_map, length, take}
 use Rattle.std.proofs.Common.{get_or, sym, ap, ◌∙◌, arith, subst}
-use Rattle.std.proofs.lemmas.List.{append_assoc, take_more, take_all, length-append, length-take-le}
+use Rattle.std.proofs.lemmas.List.{append_assoc, take_more, length-append, length-take-le}
 use Rattle.std.proofs.lemmas.Bool.Decides.{nat_tests}
 use Rattle.iso_model.specs.declared.Kind.{Kind}
 use Rattle.iso_model.specs.Cells.{HasDimension, label_count}
 use Rattle.iso_model.specs.Tables.{Table, IsTable, IsEntry}
-use Rattle.iso_formats.specs.TableFile.{head_bytes, big_endian, entry_bytes}
+use Rattle.iso_formats.specs.TableFile.{head_bytes, big_endian}
 use Rattle.iso_formats.specs.TableFile2.{body_bytes, record_bytes, index_bytes, index_end, filled_count, table_bytes2}
 use Rattle.iso_formats.proofs.TableIndexLaws.{index_bytes-push, bodies-push}
 use Rattle.iso_formats.proofs.TableWalkLaws.{flat_length}

@@ -9,7 +9,7 @@ use Rattle.iso_model.specs.Cells.{HasDimension, label_count}
 use Rattle.iso_model.specs.Tables.{Table, IsTable, IsEntry}
 use Rattle.iso_formats.specs.TableFile.{head_bytes, table_bytes, entry_bytes, SpellsTable, IsWholeTable}
 use Rattle.iso_formats.proofs.TableLaws.{table_reads_on, ReadsOn}
-use Rattle.table_file.specs.Heads.{HasHead}
+use Rattle.iso_formats.specs.TableFile2.{HasHeadOf}
 use Rattle.table_file.specs.HeldEntries.{IsEntryAt}
 
 abbrev pub table_of : Kind → ℕ → List (List (List ℕ)) → Table
@@ -34,7 +34,7 @@ table_bytes-push kind d es ws =
     (flat_map-append entry_bytes es (ws ∷ []) ∙ ap (λ (l : List ℕ). flat_map entry_bytes es ++ l) (append-nil (entry_bytes ws)))
     ∙ sym (append_assoc (head_bytes 1 kind d) (flat_map entry_bytes es) (entry_bytes ws))
 
-pub read_none : (kind : Kind) (d : ℕ) (bytes : List ℕ) → HasHead bytes kind d → HasRead kind d bytes [] 16
+pub read_none : (kind : Kind) (d : ℕ) (bytes : List ℕ) → HasHeadOf 1 bytes kind d → HasRead kind d bytes [] 16
 read_none kind d bytes h = record {
   fits = h.fits;
   sound = All-nil (IsEntry kind d);

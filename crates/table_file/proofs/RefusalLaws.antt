@@ -5,7 +5,7 @@ use Rattle.iso_model.specs.declared.Kind.{Kind}
 use Rattle.iso_model.specs.Cells.{label_count}
 use Rattle.iso_formats.specs.TableFile.{IsWholeTable}
 use Rattle.table_file.specs.declared.faults.TableFault.{TableFault}
-use Rattle.table_file.specs.declared.faults.TableFault.TheVariants.{Magic, Kind as KindFault, EdgeNumber, Short, Extra, Memory}
+use Rattle.table_file.specs.declared.faults.TableFault.TheVariants.{Magic, Kind as KindFault, EdgeNumber, Short, Extra, Index, Count, Memory}
 use Rattle.table_file.specs.HeldEntries.{IsEntryFault}
 use Rattle.table_file.proofs.EntryLaws.{no_entry_wrong, no_entry_cut, entry_begins}
 use Rattle.table_file.proofs.Progress.{HasRead, not_whole-entry}
@@ -21,4 +21,6 @@ only_memory kind d bytes es place (Short p) r few f w = elim f.1 as (λ _. Short
   | inr cut ↦ absurd (not_whole-entry kind d bytes es place r few (no_entry_cut kind d (drop place bytes) cut) w)
 ]
 only_memory kind d bytes es place (Extra p) r few f w = absurd f
+only_memory kind d bytes es place (Index p) r few f w = absurd f
+only_memory kind d bytes es place (Count p) r few f w = absurd f
 only_memory kind d bytes es place Memory r few f w = refl

@@ -11,7 +11,8 @@ use Rattle.iso_model.specs.Cells.{HasDimension, edge_count, label_count}
 use Rattle.iso_formats.specs.TableFile.{head_bytes, big_endian, IsWholeTable, TableFault, magic_fault, kind_fault, edge_fault, short_fault}
 use Rattle.iso_formats.specs.TableFile.{extra_fault, HasTableFault, HasOneFault}
 use Rattle.table_file.specs.declared.faults.TableFault.TheVariants.{Short}
-use Rattle.table_file.specs.Heads.{rows, BeginsHead, StopsInHead, HasHead}
+use Rattle.table_file.specs.Heads.{rows, BeginsHead, StopsInHead}
+use Rattle.iso_formats.specs.TableFile2.{HasHeadOf}
 use Rattle.table_file.specs.HeldEntries.{BeginsWithCount, IsEntryAt, HasWrongEdge, IsCutOff}
 use Rattle.table_file.proofs.TupleRows.{small_counts}
 use Rattle.table_file.proofs.HeadLaws.{stands_among}
@@ -40,7 +41,7 @@ AgreesNot bytes n row = take n bytes ≡ take n (head_bytes 1 row.0 row.1) → �
 Fits : Kind × ℕ → Type 0
 Fits row = HasDimension row.0 row.1
 
-row_cases : (bytes : List ℕ) (n : ℕ) (rs : List (Kind × ℕ)) → All Fits rs → BeginsHead bytes n ⊎ All (AgreesNot bytes n) rs
+row_cases : (bytes : List ℕ) (n : ℕ) (rs : List (Kind × ℕ)) → All Fits rs → BeginsHead 1 bytes n ⊎ All (AgreesNot bytes n) rs
 unfolding AgreesNot Fits
 row_cases bytes n [] fits = inr (All-nil (AgreesNot bytes n))
 row_cases bytes n (row ∷ rs) fits = elim (list_cases (take n bytes) (take n (head_bytes 1 row.0 row.1))) [
@@ -61,7 +62,7 @@ rows_fit =
     (All-cons Fits (Simplex, 3) (drop 5 rows) (omega arith, omega arith)
     (All-cons Fits (Simplex, 4) (drop 6 rows) (omega arith, omega arith) (All-cons Fits (Pyramid, 3) [] refl (All-nil Fits)))))))
 
-head_cases : (bytes : List ℕ) (n : ℕ) → BeginsHead bytes n ⊎ (BeginsHead bytes n → ⊥)
+head_cases : (bytes : List ℕ) (n : ℕ) → BeginsHead 1 bytes n ⊎ (BeginsHead 1 bytes n → ⊥)
 unfolding AgreesNot
 head_cases bytes n = elim (row_cases bytes n rows rows_fit) [
   | inl b ↦ inl b
@@ -71,22 +72,22 @@ head_cases bytes n = elim (row_cases bytes n rows rows_fit) [
 ]
 
 StopsSomewhere : List ℕ → Type 0
-StopsSomewhere bytes = (place : ℕ) × StopsInHead bytes place
+StopsSomewhere bytes = (place : ℕ) × StopsInHead 1 bytes place
 
-head_goes : (bytes : List ℕ) (n : ℕ) → n ≤ 16 → n ≤ length bytes → BeginsHead bytes n ⊎ StopsSomewhere bytes
+head_goes : (bytes : List ℕ) (n : ℕ) → n ≤ 16 → n ≤ length bytes → BeginsHead 1 bytes n ⊎ StopsSomewhere bytes
 unfolding StopsSomewhere
 head_goes bytes zero h inside = inl (record { kind = Cube; dimension = 2; fits = (omega arith, omega arith); same = refl })
 head_goes bytes (suc n) h inside = elim (head_goes bytes n (omega arith) (omega arith)) [
   | inl b ↦ elim (head_cases bytes (suc n)) [
     | inl c ↦ inl c
     | inr never ↦ let next : n + 1 ≡ suc n = omega arith in
-        inr (n, record { inside_head = omega arith; inside = omega arith; begun = b; stopped = λ _ c. never (subst (λ m. BeginsHead bytes m) next c) })
+        inr (n, record { inside_head = omega arith; inside = omega arith; begun = b; stopped = λ _ c. never (subst (λ m. BeginsHead 1 bytes m) next c) })
   ]
   | inr s ↦ inr s
 ]
 
 HasSomeHead : List ℕ → Type 0
-HasSomeHead bytes = (kind : Kind) × (d : ℕ) × HasHead bytes kind d
+HasSomeHead bytes = (kind : Kind) × (d : ℕ) × HasHeadOf 1 bytes kind d
 
 some_head : (bytes : List ℕ) → HasSomeHead bytes ⊎ StopsSomewhere bytes
 unfolding StopsSomewhere HasSomeHead
@@ -101,7 +102,7 @@ some_head bytes = elim (cases_lt (length bytes) 16) [
   ]
 ]
 
-head_fault : (bytes : List ℕ) (place : ℕ) → StopsInHead bytes place → HasSomeFault bytes
+head_fault : (bytes : List ℕ) (place : ℕ) → StopsInHead 1 bytes place → HasSomeFault bytes
 unfolding HasSomeFault
 head_fault bytes place s = elim (cases_lt place (length bytes)) as (λ _. (fault : TableFault) × HasTableFault bytes fault) [
   | inl inside ↦ elim (cases_lt place 8) as (λ _. (fault : TableFault) × HasTableFault bytes fault) [

@@ -23,22 +23,16 @@ abbrev pub version_number : Version → ℕ
 version_number One = 1
 version_number Two = 2
 
--- the first bytes, so many, are those of a head
-pub record BeginsHead (bytes : List ℕ) (places : ℕ) : Type 0 where
+-- the first bytes, so many, are those of a head of the version
+pub record BeginsHead (version : ℕ) (bytes : List ℕ) (places : ℕ) : Type 0 where
   pub kind : Kind
   pub dimension : ℕ
   pub fits : HasDimension kind dimension
-  pub same : take places bytes ≡ take places (head_bytes 1 kind dimension)
+  pub same : take places bytes ≡ take places (head_bytes version kind dimension)
 
--- the bytes before the place begin a head, and there they end, or no head goes on
-pub record StopsInHead (bytes : List ℕ) (place : ℕ) : Type 0 where
+-- the bytes before the place begin a head of the version, and there they end, or no such head goes on
+pub record StopsInHead (version : ℕ) (bytes : List ℕ) (place : ℕ) : Type 0 where
   pub inside_head : place < 16
   pub inside : place ≤ length bytes
-  pub begun : BeginsHead bytes place
-  pub stopped : place < length bytes → ¬ BeginsHead bytes (place + 1)
-
--- the first sixteen bytes are the head of a kind and a dimension
-pub record HasHead (bytes : List ℕ) (kind : Kind) (dimension : ℕ) : Type 0 where
-  pub fits : HasDimension kind dimension
-  pub whole : 16 ≤ length bytes
-  pub same : take 16 bytes ≡ head_bytes 1 kind dimension
+  pub begun : BeginsHead version bytes place
+  pub stopped : place < length bytes → ¬ BeginsHead version bytes (place + 1)

@@ -5,7 +5,7 @@ use Rattle.iso_model.specs.Cells.{edge_count}
 use Rattle.iso_model.specs.Tables.{IsEntry}
 use Rattle.iso_formats.specs.TableFile.{big_endian, entry_bytes}
 use Rattle.table_file.specs.declared.faults.TableFault.{TableFault}
-use Rattle.table_file.specs.declared.faults.TableFault.TheVariants.{Magic, Kind as KindFault, EdgeNumber, Short, Extra, Memory}
+use Rattle.table_file.specs.declared.faults.TableFault.TheVariants.{Magic, Kind as KindFault, EdgeNumber, Short, Extra, Index, Count, Memory}
 
 -- the bytes begin with a count of tuples that is whole and at most 2^28
 abbrev pub BeginsWithCount : List ℕ → ℕ → Type 0
@@ -47,4 +47,6 @@ IsEntryFault kind d bytes place (EdgeNumber p) = (distance : ℕ) × (p ≡ plac
 IsEntryFault kind d bytes place (Short p) =
     (p ≡ length bytes) × (((count : ℕ) → ¬ BeginsWithCount (drop place bytes) count) ⊎ IsCutOff kind d (drop place bytes))
 IsEntryFault kind d bytes place (Extra p) = ⊥
+IsEntryFault kind d bytes place (Index p) = ⊥
+IsEntryFault kind d bytes place (Count p) = ⊥
 IsEntryFault kind d bytes place Memory = ⊤

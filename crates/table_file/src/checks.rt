@@ -1,8 +1,9 @@
 //! What a table always holds, asked of entries that are given.
 
-ghost use Rattle.std.specs.Prelude.{◌≡◌, ◌<◌, ◌≤◌, ◌↔◌, ◌^◌, IsTrue, length, map, All};
-ghost use Rattle.iso_model.specs.Cells.{HasDimension, edge_count, label_count};
+ghost use Rattle.std.specs.Prelude.{◌↔◌, IsTrue};
+ghost use Rattle.iso_model.specs.Cells.{HasDimension};
 ghost use Rattle.iso_model.specs.Tables.{IsTuple, IsEntry};
+ghost use Rattle.table_file.specs.Holding.{AreEntries};
 
 use crate::entries::{MOST_TUPLES, first_wrong};
 use crate::heads::{edges, labels};
@@ -45,7 +46,7 @@ fn is_entry<const D: usize>(kind: Kind, tuples: &[[u8; D]]) -> bool
 /// There is an entry for each label.
 pub(crate) fn are_entries<const D: usize>(kind: Kind, entries: &[Vec<[u8; D]>]) -> bool
     requires { HasDimension kind D }
-    ensures { IsTrue result ↔ ((length entries.now ≡ label_count kind D) × All (IsEntry kind D) (map (λ entry. entry.items) entries.now)) }
+    ensures { IsTrue result ↔ AreEntries kind D entries.now }
 {
     if entries.len() != labels(kind, D as u8) as usize {
         return false;

@@ -48,7 +48,7 @@ pub(crate) fn read_entry<const D: usize>(
     place: usize,
 ) -> Result<Vec<[u8; D]>, TableFault>
     requires fits { HasDimension kind D }
-    requires few { length bytes.now ≤ 2 ^ 30 }
+    requires few { length bytes.now ≤ 2 ^ 31 }
     requires inside { place ≤ length bytes.now }
     ensures entry { IfOk result (λ tuples. IsEntryAt kind D bytes.now place tuples.items) }
     ensures fault { IfErr result (IsEntryFault kind D bytes.now place) }

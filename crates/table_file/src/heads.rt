@@ -1,9 +1,11 @@
-//! The first sixteen bytes of a table, which name its kind and dimension.
+//! The first sixteen bytes of a table file, which name its version and the kind and dimension of the table.
 
-ghost use Rattle.std.specs.Prelude.{◌≡◌, ℕ, ◌+◌, ◌<◌, ◌≤◌, length, take, slice_index, slice_index_or, IfOk, IfErr};
+ghost use Rattle.std.specs.Prelude.{◌≡◌, ◌↔◌, ℕ, ◌+◌, ◌<◌, ◌≤◌, length, take, slice_index, slice_index_or, IfOk, IfErr};
 ghost use Rattle.iso_model.specs.Cells.{HasDimension, corner_count, edge_count, label_count};
 ghost use Rattle.iso_formats.specs.TableFile.{head_bytes, kind_byte};
-ghost use Rattle.table_file.specs.Heads.{IsAgreement, HasHead, StopsInHead, rows, version_number};
+ghost use Rattle.iso_formats.specs.TableFile2.{HasHeadOf};
+ghost use Rattle.table_file.specs.Heads.{IsAgreement, StopsInHead, rows, version_number};
+ghost use Rattle.table_file.specs.declared.heads.Version.TheVariants.{Two};
 
 use iso_model::Kind;
 
@@ -111,15 +113,27 @@ fn row(number: usize) -> (Kind, u8)
     ROWS[number]
 }
 
-/// The kind and the dimension of the head with which the bytes begin, or the first place at which no head goes on.
-pub(crate) fn read_head(bytes: &[u8]) -> Result<(Kind, u8), usize>
-    ensures head { IfOk result (λ row. HasHead bytes.now row.0 row.1) }
-    ensures fault { IfErr result (StopsInHead bytes.now) }
+/// The version that the eighth byte names; where it names none, the first.
+pub(crate) fn version_of(bytes: &[u8]) -> Version
+    ensures { (result ≡ Two) ↔ ((7 < length bytes.now) × (slice_index bytes.now 7 ≡ 50)) }
+{
+    if bytes.len() > 7 && bytes[7] == b'2' {
+        Version::Two
+    } else {
+        Version::One
+    }
+}
+
+/// The kind and the dimension of the head with which bytes of a version begin, or the first place at which no head of
+/// this version goes on.
+pub(crate) fn read_head(version: Version, bytes: &[u8]) -> Result<(Kind, u8), usize>
+    ensures head { IfOk result (λ row. HasHeadOf (version_number version) bytes.now row.0 row.1) }
+    ensures fault { IfErr result (StopsInHead (version_number version) bytes.now) }
 {
     let mut reached = 0;
     for number in 0..ROWS.len() {
         let (kind, dimension) = row(number);
-        let places = agreement(bytes, &head(Version::One, kind, dimension));
+        let places = agreement(bytes, &head(version, kind, dimension));
         if places == 16 {
             return Ok((kind, dimension));
         }

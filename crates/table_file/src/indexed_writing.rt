@@ -1,18 +1,20 @@
 //! Writing the bytes of a table in version 2, with an index and without its empty entries.
 
 ghost use Rattle.std.specs.Prelude.{◌≡◌, ◌*◌, ◌++◌, ◌^◌, ◌≤◌, flat_map, length, IfOk, OnOk};
-ghost use Rattle.iso_formats.specs.TableFile2.{body_bytes, filled_count, index_bytes, index_end as end_of_index, record_bytes, table_bytes2};
+ghost use Rattle.iso_formats.specs.TableFile2.{body_bytes, filled_count, index_bytes, record_bytes, table_bytes2};
 ghost use Rattle.iso_model.specs.Cells.{HasDimension};
 ghost use Rattle.iso_model.specs.Tables.{IsEntry};
 
 use crate::heads::{Version, head};
+use crate::index::index_end;
 use crate::tables::Table;
 use crate::writing::append;
 use iso_base::Memory;
 use iso_model::Kind;
 use std::alloc::Global;
 
-/// The bytes of a table in version 2: an index of the labels whose entries are not empty, and these entries.
+/// The bytes of a table in version 2, which [`decode`](crate::decode) reads: an index of the labels whose entries are
+/// not empty, and these entries.
 pub fn encode2<const D: usize>(alloc: Global, table: &Table<D>) -> Result<Vec<u8>, Memory>
     ensures { IfOk result (λ bytes. bytes.items ≡ table_bytes2 table.now) }
 {
@@ -26,14 +28,6 @@ pub fn encode2<const D: usize>(alloc: Global, table: &Table<D>) -> Result<Vec<u8
     append_index(&mut bytes, table, index_end(records) as u64)?;
     append_bodies(&mut bytes, table)?;
     Ok(bytes)
-}
-
-/// Where the index of so many records ends.
-fn index_end(records: usize) -> usize
-    requires { records ≤ 65536 }
-    ensures { result ≡ end_of_index records }
-{
-    20 + 12 * records
 }
 
 /// How many labels have entries that are not empty.

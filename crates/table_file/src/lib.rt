@@ -5,10 +5,12 @@
 //! table, and finds no table in any others.
 #![tactic(auto)]
 
+mod bodies;
 mod checks;
 mod entries;
 mod faults;
 mod heads;
+mod index;
 mod indexed_writing;
 mod laws;
 mod reading;
@@ -20,7 +22,9 @@ mod writing;
 pub use faults::TableFault;
 pub use indexed_writing::encode2;
 pub use iso_model::Kind;
-pub use laws::{one_fault_law, one_table_law, wrong_edge_law};
+pub use laws::{
+    file_fault_law, inverse_law, limit_law, one_fault_law, one_table_law, wrong_edge_law,
+};
 pub use reading::decode;
 pub use tables::{AnyTable, Table};
 pub use writing::encode;

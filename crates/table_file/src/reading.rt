@@ -1,14 +1,16 @@
-//! Reading the bytes of a table.
+//! Reading the bytes of a table, of version 1 or 2.
 
-ghost use Rattle.std.specs.Prelude.{◌≡◌, IfOk, IfErr, IsOkUnless};
+ghost use Rattle.std.specs.Prelude.{◌≡◌, ◌≤◌, ◌<◌, ◌^◌, length, IfOk, IfErr, IsOkUnless};
 ghost use Rattle.iso_model.specs.Tables.{Table as TableValue};
-ghost use Rattle.iso_formats.specs.TableFile.{SpellsTable, IsTooLong, IsWholeTable};
-ghost use Rattle.table_file.specs.Heads.{HasHead, StopsInHead};
-ghost use Rattle.table_file.specs.Reading.{table_in, HasOwnDimension, HasCause};
+ghost use Rattle.iso_formats.specs.TableFile.{SpellsTable, IsWholeTable};
+ghost use Rattle.iso_formats.specs.TableFile2.{BeginsSomeHead, HasHeadOf, IsFileTooLong, IsTableFile, IsWholeFile, StopsInSomeHead};
+ghost use Rattle.table_file.specs.Heads.{StopsInHead, version_number};
+ghost use Rattle.table_file.specs.Reading.{table_in, HasOwnDimension, HasCause, HasFirstCause};
 
+use crate::bodies::read_indexed;
 use crate::entries::read_entry;
 use crate::faults::TableFault;
-use crate::heads::{labels, read_head};
+use crate::heads::{Version, labels, read_head, version_of};
 use crate::tables::{AnyTable, Table};
 use iso_model::Kind;
 use std::alloc::Global;
@@ -16,30 +18,56 @@ use std::alloc::Global;
 /// The number of bytes before the first entry.
 const HEAD: usize = 16;
 
-/// The table of which these are the bytes: a head of sixteen bytes, and for each label the number of its tuples, in
-/// four bytes with the high one first and at most 2^28, and then the tuples. Numbers of edges have one byte.
+/// The table of which these are the bytes. Behind a head of sixteen bytes version 1 has for each label the number of
+/// its tuples, in four bytes with the high one first and at most 2^28, and then the tuples; numbers of edges have one
+/// byte. Version 2 has the number of labels whose entries are not empty, a record for each of them with the label in
+/// four bytes and the offset of the entry in eight, and these entries.
 pub fn decode(alloc: Global, bytes: &[u8]) -> Result<AnyTable, TableFault>
-    requires { ¬ IsTooLong bytes.now }
-    ensures table { IfOk result (λ table. SpellsTable bytes.now (table_in table)) }
-    ensures same { (t : TableValue) → SpellsTable bytes.now t → IfOk result (λ table. table_in table ≡ t) }
+    requires { ¬ IsFileTooLong bytes.now }
+    ensures table { IfOk result (λ table. IsTableFile bytes.now (table_in table)) }
+    ensures same { (t : TableValue) → IsTableFile bytes.now t → IfOk result (λ table. table_in table ≡ t) }
     ensures dimension { IfOk result HasOwnDimension }
-    ensures whole { IsWholeTable bytes.now → IsOkUnless result TableFault.Memory }
+    ensures whole { IsWholeFile bytes.now → IsOkUnless result TableFault.Memory }
     ensures cause { IfErr result (HasCause bytes.now) }
 {
-    let (kind, dimension) = match read_head(bytes) {
+    let version = version_of(bytes);
+    let (kind, dimension) = match read_head(version, bytes) {
         Ok(row) => row,
         Err(place) => return Err(head_fault(bytes, place)),
     };
     match dimension {
-        2 => Ok(AnyTable::T2(read_table(alloc, kind, bytes)?)),
-        3 => Ok(AnyTable::T3(read_table(alloc, kind, bytes)?)),
-        _ => Ok(AnyTable::T4(read_table(alloc, kind, bytes)?)),
+        2 => Ok(AnyTable::T2(read_version(alloc, version, kind, bytes)?)),
+        3 => Ok(AnyTable::T3(read_version(alloc, version, kind, bytes)?)),
+        _ => Ok(AnyTable::T4(read_version(alloc, version, kind, bytes)?)),
+    }
+}
+
+/// The table behind its head.
+fn read_version<const D: usize>(
+    alloc: Global,
+    version: Version,
+    kind: Kind,
+    bytes: &[u8],
+) -> Result<Table<D>, TableFault>
+    requires few { ¬ IsFileTooLong bytes.now }
+    requires head { HasHeadOf (version_number version) bytes.now kind D }
+    ensures table { IfOk result (IsTableFile bytes.now) }
+    ensures dimension { IfOk result (λ table. table.dimension ≡ D) }
+    ensures whole { IsWholeFile bytes.now → IsOkUnless result TableFault.Memory }
+    ensures cause { IfErr result (HasCause bytes.now) }
+{
+    match version {
+        Version::One => read_table(alloc, kind, bytes),
+        Version::Two => read_indexed(alloc, kind, bytes),
     }
 }
 
 /// The fault of bytes that stop at this place of a head.
 fn head_fault(bytes: &[u8], place: usize) -> TableFault
-    requires { StopsInHead bytes.now place }
+    requires head { place < 16 }
+    requires inside { place ≤ length bytes.now }
+    requires begun { BeginsSomeHead bytes.now place }
+    requires stopped { place < length bytes.now → StopsInSomeHead bytes.now place }
     ensures { HasCause bytes.now result }
 {
     if place == bytes.len() {
@@ -51,18 +79,18 @@ fn head_fault(bytes: &[u8], place: usize) -> TableFault
     }
 }
 
-/// The table behind its head.
+/// The table behind its head of version 1.
 fn read_table<const D: usize>(
     alloc: Global,
     kind: Kind,
     bytes: &[u8],
 ) -> Result<Table<D>, TableFault>
-    requires few { ¬ IsTooLong bytes.now }
-    requires head { HasHead bytes.now kind D }
+    requires few { length bytes.now ≤ 2 ^ 31 }
+    requires head { HasHeadOf 1 bytes.now kind D }
     ensures table { IfOk result (SpellsTable bytes.now) }
     ensures dimension { IfOk result (λ table. table.dimension ≡ D) }
     ensures whole { IsWholeTable bytes.now → IsOkUnless result TableFault.Memory }
-    ensures cause { IfErr result (HasCause bytes.now) }
+    ensures cause { IfErr result (HasFirstCause bytes.now) }
 {
     let labels = labels(kind, D as u8);
     let mut entries = Vec::with_capacity(alloc, labels as usize)?;

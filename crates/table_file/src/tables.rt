@@ -1,8 +1,9 @@
 //! Tables in memory.
 
-ghost use Rattle.std.specs.Prelude.{◌≡◌, ◌<◌, length, map, IfOk, IfErr, IsOk};
+ghost use Rattle.std.specs.Prelude.{◌≡◌, ◌<◌, length, IfOk, IfErr, IsOk};
 ghost use Rattle.iso_model.specs.Cells.{label_count};
 ghost use Rattle.iso_model.specs.Tables.{IsTable, IsEntry, entry_of};
+ghost use Rattle.table_file.specs.Holding.{table_with};
 
 use crate::checks::{are_entries, has_dimension};
 use iso_model::Kind;
@@ -19,14 +20,14 @@ pub struct Table<const D: usize> {
 }
 
 impl<const D: usize> Model for Table<D> {
-    ghost use Rattle.std.specs.Prelude.{map};
     ghost use Rattle.iso_model.specs.Tables.{Table as TableValue, IsTable};
+    ghost use Rattle.table_file.specs.Holding.{table_with};
 
     ghost Value = { TableValue };
 
-    ghost view = { λ t. record { kind = t.kind; dimension = D; entries = map (λ entry. entry.items) t.entries.items } };
+    ghost view = { λ t. table_with t.kind D t.entries.items };
 
-    ghost invariant = { λ t. IsTable (record { kind = t.kind; dimension = D; entries = map (λ entry. entry.items) t.entries.items }) };
+    ghost invariant = { λ t. IsTable (table_with t.kind D t.entries.items) };
 }
 
 /// A table of any of the dimensions.
@@ -72,9 +73,9 @@ impl<const D: usize> Table<D> {
         kind: Kind,
         entries: Vec<Vec<[u8; D]>>,
     ) -> Result<Table<D>, Vec<Vec<[u8; D]>>>
-        ensures table { IfOk result (λ table. table ≡ record { kind = kind; dimension = D; entries = map (λ entry. entry.items) entries.entry.items }) }
+        ensures table { IfOk result (λ table. table ≡ table_with kind D entries.entry.items) }
         ensures handed_back { IfErr result (λ back. back ≡ entries.entry) }
-        ensures accepted { IsTable (record { kind = kind; dimension = D; entries = map (λ entry. entry.items) entries.entry.items }) → IsOk result }
+        ensures accepted { IsTable (table_with kind D entries.entry.items) → IsOk result }
     {
         if has_dimension(kind, D) && are_entries(kind, &entries) {
             Ok(Table { kind, entries })
@@ -85,8 +86,8 @@ impl<const D: usize> Table<D> {
 
     /// The table of entries that make one.
     pub(crate) fn assemble(kind: Kind, entries: Vec<Vec<[u8; D]>>) -> Table<D>
-        requires { IsTable (record { kind = kind; dimension = D; entries = map (λ entry. entry.items) entries.items }) }
-        ensures { result ≡ record { kind = kind; dimension = D; entries = map (λ entry. entry.items) entries.entry.items } }
+        requires { IsTable (table_with kind D entries.items) }
+        ensures { result ≡ table_with kind D entries.entry.items }
     {
         Table { kind, entries }
     }

@@ -3,41 +3,7 @@
 use crate::{AnyTable, Kind, Table, TableFault, decode, encode, encode2};
 use std::alloc::Global;
 use std::test::Fail;
-use worked_tables::{SQUARE, TRIANGLE};
-
-/// The table of the square in version 2, which leaves the labels 0 and 15 out.
-const SQUARE2: [u8; 276] = [
-    72, 85, 76, 76, 84, 65, 66, 50, 0, 2, 4, 4, 0, 0, 0, 16, // the head
-    0, 0, 0, 14, // the number of records
-    0, 0, 0, 1, 0, 0, 0, 0, 0, 0, 0, 188, // the record of label 1
-    0, 0, 0, 2, 0, 0, 0, 0, 0, 0, 0, 194, // the record of label 2
-    0, 0, 0, 3, 0, 0, 0, 0, 0, 0, 0, 200, // the record of label 3
-    0, 0, 0, 4, 0, 0, 0, 0, 0, 0, 0, 206, // the record of label 4
-    0, 0, 0, 5, 0, 0, 0, 0, 0, 0, 0, 212, // the record of label 5
-    0, 0, 0, 6, 0, 0, 0, 0, 0, 0, 0, 218, // the record of label 6
-    0, 0, 0, 7, 0, 0, 0, 0, 0, 0, 0, 226, // the record of label 7
-    0, 0, 0, 8, 0, 0, 0, 0, 0, 0, 0, 232, // the record of label 8
-    0, 0, 0, 9, 0, 0, 0, 0, 0, 0, 0, 238, // the record of label 9
-    0, 0, 0, 10, 0, 0, 0, 0, 0, 0, 0, 246, // the record of label 10
-    0, 0, 0, 11, 0, 0, 0, 0, 0, 0, 0, 252, // the record of label 11
-    0, 0, 0, 12, 0, 0, 0, 0, 0, 0, 1, 2, // the record of label 12
-    0, 0, 0, 13, 0, 0, 0, 0, 0, 0, 1, 8, // the record of label 13
-    0, 0, 0, 14, 0, 0, 0, 0, 0, 0, 1, 14, // the record of label 14
-    0, 0, 0, 1, 0, 1, // the body of label 1
-    0, 0, 0, 1, 2, 0, // the body of label 2
-    0, 0, 0, 1, 2, 1, // the body of label 3
-    0, 0, 0, 1, 1, 3, // the body of label 4
-    0, 0, 0, 1, 0, 3, // the body of label 5
-    0, 0, 0, 2, 1, 0, 2, 3, // the body of label 6
-    0, 0, 0, 1, 2, 3, // the body of label 7
-    0, 0, 0, 1, 3, 2, // the body of label 8
-    0, 0, 0, 2, 0, 2, 3, 1, // the body of label 9
-    0, 0, 0, 1, 3, 0, // the body of label 10
-    0, 0, 0, 1, 3, 1, // the body of label 11
-    0, 0, 0, 1, 1, 2, // the body of label 12
-    0, 0, 0, 1, 0, 2, // the body of label 13
-    0, 0, 0, 1, 1, 0, // the body of label 14
-];
+use worked_tables::{SQUARE, SQUARE2, TRIANGLE};
 
 /// The last eight bytes of the heads of the seven kinds.
 const KINDS: [[u8; 8]; 7] = [
@@ -175,8 +141,6 @@ fn writes_what_was_read(rt: HostRuntime) -> Result<(), Fail> {
     };
     let bytes = encode(rt.alloc(), &square).map_err(|_| "memory")?;
     assert_eq!(rt; bytes.as_slice(), SQUARE.as_slice());
-    let bytes = encode2(rt.alloc(), &square).map_err(|_| "memory")?;
-    assert_eq!(rt; bytes.as_slice(), SQUARE2.as_slice());
     let AnyTable::T2(triangle) = decode(rt.alloc(), &TRIANGLE)? else {
         return Err("no table of two dimensions".into());
     };
@@ -212,6 +176,77 @@ fn takes_the_entries_of_tables(rt: HostRuntime) -> Result<(), Fail> {
                 assert_eq!(rt; entries.len(), count as usize);
             }
         }
+    }
+    Ok(())
+}
+
+#[test]
+fn reads_and_writes_version_2(rt: HostRuntime) -> Result<(), Fail> {
+    for bytes in [SQUARE.as_slice(), &SQUARE2] {
+        let AnyTable::T2(square) = decode(rt.alloc(), bytes)? else {
+            return Err("no table of two dimensions".into());
+        };
+        let first = encode(rt.alloc(), &square).map_err(|_| "memory")?;
+        assert_eq!(rt; first.as_slice(), SQUARE.as_slice());
+        let second = encode2(rt.alloc(), &square).map_err(|_| "memory")?;
+        assert_eq!(rt; second.as_slice(), SQUARE2.as_slice());
+    }
+    Ok(())
+}
+
+#[test]
+fn names_each_fault_of_version_2(rt: HostRuntime) {
+    // A byte that is set, its value, how many bytes are left, and the fault.
+    let cases = [
+        (7, b'3', 276, TableFault::Magic(7)),
+        (19, 17, 276, TableFault::Index(16)),
+        (19, 15, 276, TableFault::Index(24)),
+        (23, 2, 276, TableFault::Index(32)),
+        (35, 1, 276, TableFault::Index(32)),
+        (179, 16, 276, TableFault::Index(176)),
+        (31, 172, 276, TableFault::Index(24)),
+        (43, 195, 276, TableFault::Index(36)),
+        (191, 2, 276, TableFault::Count(188)),
+        (191, 0, 276, TableFault::Count(188)),
+        (192, 9, 276, TableFault::EdgeNumber(192)),
+        (192, 4, 276, TableFault::EdgeNumber(192)),
+        (273, 0, 276, TableFault::Count(270)),
+        (270, 255, 276, TableFault::Count(270)),
+        (270, 16, 276, TableFault::Count(270)),
+        (271, 255, 276, TableFault::Short(276)),
+        (275, 0, 275, TableFault::Short(275)),
+        (276, 0, 277, TableFault::Extra(276)),
+        // A label that the end cuts off, wrong already, and a count of records that is not there.
+        (20, 255, 23, TableFault::Short(23)),
+        (20, 255, 24, TableFault::Index(20)),
+        (16, 0, 16, TableFault::Short(16)),
+    ];
+    for (place, byte, length, expected) in cases {
+        let mut bytes = [0; 277];
+        bytes[..276].copy_from_slice(&SQUARE2);
+        assert!(rt; place < 277);
+        bytes[place] = byte;
+        assert!(rt; length <= 277);
+        assert_eq!(rt;
+            fault_of(rt.alloc(), &bytes[..length]),
+            Some(expected),
+            "expected {expected:?}"
+        );
+    }
+}
+
+#[test]
+fn reads_tables_with_few_entries(rt: HostRuntime) -> Result<(), Fail> {
+    for kind in KINDS {
+        let mut bytes = [0; 21];
+        bytes[..8].copy_from_slice(&SQUARE2[..8]);
+        bytes[8..16].copy_from_slice(&kind);
+        assert_eq!(rt; fault_of(rt.alloc(), &bytes[..20]), None);
+        assert_eq!(rt; fault_of(rt.alloc(), &bytes), Some(TableFault::Extra(20)));
+        assert_eq!(rt;
+            fault_of(rt.alloc(), &bytes[..19]),
+            Some(TableFault::Short(19))
+        );
     }
     Ok(())
 }

@@ -1,13 +1,10 @@
 -- Lists of entries that the construction gives.
-use Rattle.std.specs.Prelude.{◌≡◌, ℕ, ◌+◌, ◌-◌, ◌<◌, ◌≤◌, List, [], map, length, slice_index_or, Vec, Result, IfOk}
+use Rattle.std.specs.Prelude.{◌≡◌, ℕ, ◌+◌, ◌-◌, ◌<◌, ◌≤◌, List, [], length, slice_index_or, Vec, Result, IfOk}
 use Rattle.std.proofs.Common.{Global}
 use Rattle.iso_model.specs.declared.Kind.{Kind}
 use Rattle.iso_model.specs.Entries.{IsEntryOf}
 use Rattle.iso_base.specs.Parts.{start_of}
-
--- the lists of these vectors
-abbrev pub lists_of : {X : Type 0} → List (Vec X Global) → List (List X)
-lists_of vectors = map (λ v. v.items) vectors
+use Rattle.table_file.specs.Holding.{lists_of}
 
 -- the entries of the labels from `low` on and below `high`, in their order
 pub record AreHullEntries (kind : Kind) (d low high : ℕ) (entries : List (List (List ℕ))) : Type 0 where

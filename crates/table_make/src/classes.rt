@@ -1,6 +1,7 @@
 //! The hulls of a cube's labellings, each of the least one of its class.
 
 ghost use Rattle.std.specs.Prelude.{◌≡◌, ◌^◌, ◌<◌, ◌++◌, ◌∷◌, [], All, None, IfOk, OnOk, length, map};
+ghost use Rattle.table_file.specs.Holding.{lists_of};
 ghost use Rattle.table_make.specs.ClassHulls.{KnowsHulls, IsHullAt};
 
 use case_patch::hull;
@@ -29,7 +30,7 @@ fn add_none(places: &mut Vec<Option<usize>>) -> Result<(), Memory>
 }
 
 fn add_hull(hulls: &mut Vec<Vec<u64>>, facets: Vec<u64>) -> Result<(), Memory>
-    ensures { OnOk result (map (λ h. h.items) hulls.new.items ≡ map (λ h. h.items) hulls.old.items ++ facets.items ∷ []) }
+    ensures { OnOk result (lists_of hulls.new.items ≡ lists_of hulls.old.items ++ facets.items ∷ []) }
 {
     match hulls.push(facets) {
         Ok(()) => Ok(()),

@@ -2,6 +2,7 @@
 
 ghost use Rattle.std.specs.Prelude.{◌≡◌, ◌≤◌, ◌^◌, ◌++◌, ◌∷◌, [], IfOk, OnOk, map};
 ghost use Rattle.iso_model.specs.declared.Kind.{Kind};
+ghost use Rattle.table_file.specs.Holding.{lists_of};
 ghost use Rattle.table_make.specs.HullEntries.{AreHullEntries};
 ghost use Rattle.iso_model.specs.Dimensions.{IsDimension};
 
@@ -25,7 +26,7 @@ pub(crate) fn add_entry<const D: usize>(
     entry: Vec<[u8; D]>,
 ) -> Result<(), Memory>
     requires { IsDimension D }
-    ensures { OnOk result (map (λ e. e.items) entries.new.items ≡ map (λ e. e.items) entries.old.items ++ entry.entry.items ∷ []) }
+    ensures { OnOk result (lists_of entries.new.items ≡ lists_of entries.old.items ++ entry.entry.items ∷ []) }
 {
     match entries.push(entry) {
         Ok(()) => Ok(()),

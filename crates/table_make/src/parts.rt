@@ -4,7 +4,8 @@ ghost use Rattle.std.specs.Prelude.{◌≡◌, ◌+◌, ◌-◌, ◌^◌, ◌<�
 ghost use Rattle.std.specs.Thread.{IsSync};
 ghost use Rattle.iso_model.specs.Dimensions.{IsDimension};
 ghost use Rattle.iso_model.specs.Entries.{IsHullTable};
-ghost use Rattle.table_make.specs.HullEntries.{lists_of, AnswersPieces};
+ghost use Rattle.table_file.specs.Holding.{lists_of};
+ghost use Rattle.table_make.specs.HullEntries.{AnswersPieces};
 
 use crate::entries::{add_entry, hull_entries, labels};
 use crate::generated::table_of;

@@ -3,8 +3,8 @@ use Rattle.iso_cli.proofs.laws.one_answer_law.Goals as goal
 
 pub returns-clause-one : goal.returns-clause-one
 returns-clause-one c = λ files words.
-    one_answer files words (record { stops = c.wrong_edge_law.ensures; one = c.one_fault_law.ensures })
+    one_answer files words
 
 pub returns-clause-lack : goal.returns-clause-lack
 returns-clause-lack c = λ files words.
-    lack_where_refused files words (record { stops = c.wrong_edge_law.ensures; one = c.one_fault_law.ensures })
+    lack_where_refused files words

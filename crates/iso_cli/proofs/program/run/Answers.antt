@@ -15,7 +15,7 @@ returns-then-ne-clause-served g c = λ never serves told holds.
     complete g.S.Shelf.faults g.S.Shelf.files g.S.Shelf.sound (texts c.args.words.now) c.perform-status.result c.args.shelf.now
     c.perform-status.new.shelf (g.O.Sink.faults c.args.out.now) (g.O.Sink.faults c.perform-status.new.out)
     c.perform-status.ensures.answer c.perform-status.ensures.shelf c.perform-status.ensures.output.blamed never serves
-    (answerable (g.S.Shelf.files c.args.shelf.now) (texts c.args.words.now) c.wrong_edge_law.ensures told holds)
+    (answerable (g.S.Shelf.files c.args.shelf.now) (texts c.args.words.now) told holds)
 
 pub returns-then-ne-clause-line : goal.returns-then-ne-clause-line
 returns-then-ne-clause-line g c =

@@ -1,4 +1,4 @@
-use Rattle.std.proofs.Common.{arith, ◌∙◌, ap, ◌++◌, List, ℕ, length}
+use Rattle.std.proofs.Common.{◌∙◌, ap, ◌++◌, List, ℕ, length}
 use Rattle.table_file.proofs.IndexedWritingLaws.{record_put, some_tuples}
 use Rattle.table_file.proofs.indexed_writing.append_record.Goals as goal
 

@@ -1,4 +1,4 @@
-use Rattle.std.proofs.Common.{arith, ◌∙◌, ap, List, ℕ}
+use Rattle.std.proofs.Common.{arith, ◌∙◌, ap}
 use Rattle.iso_formats.specs.TableFile.{head_bytes}
 use Rattle.iso_model.specs.declared.Kind.{Kind}
 use Rattle.table_file.proofs.IndexedWritingLaws.{all_written}

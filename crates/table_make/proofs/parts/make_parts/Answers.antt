@@ -1,6 +1,6 @@
 use Rattle.std.proofs.Common.{◌^◌, arith}
 use Rattle.case_patch.proofs.Narrow.{bytes_fit}
-use Rattle.table_make.specs.HullEntries.{lists_of}
+use Rattle.table_file.specs.Holding.{lists_of}
 use Rattle.table_make.proofs.HullEntryLaws.{whole_pieces}
 use Rattle.table_make.proofs.parts.make_parts.Goals as goal
 
