@@ -11,7 +11,7 @@ _iso() {
         key=${COMP_WORDS[COMP_CWORD - 2]} value=$word apart=yes
     fi
     if ((COMP_CWORD == 1)); then
-        COMPREPLY=($(compgen -W "generate check extract" -- "$word"))
+        COMPREPLY=($(compgen -W "generate check extract convert" -- "$word"))
         return
     fi
     local before=
@@ -33,7 +33,7 @@ _iso() {
             local keys= it left=
             case $command in
                 generate) keys="kind= dim=" ;;
-                check) keys="table=" ;;
+                check | convert) keys="table=" ;;
                 extract) keys="table= grid= iso=" ;;
             esac
             for it in $keys; do
