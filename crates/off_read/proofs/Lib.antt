@@ -1,0 +1,8 @@
+pub mod LineWords
+pub mod MeshLaws
+pub mod OffLaws
+pub mod ReadingLaws
+pub mod SeeLaws
+pub mod StageLaws
+pub mod TakingLaws
+pub mod WordLaws
