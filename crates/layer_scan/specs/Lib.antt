@@ -7,3 +7,4 @@ pub mod PlanesOfCentres
 pub mod Centres
 pub mod SlicePlanes
 pub mod FlaggedCubes
+pub mod ScanPlanes

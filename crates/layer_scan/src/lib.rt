@@ -15,4 +15,7 @@ mod kept;
 mod kinds;
 mod numbers;
 mod rows;
+mod scan;
 mod slices;
+
+pub use scan::LayerPlanes;
