@@ -39,7 +39,7 @@ seen_is facet p s inside e = any_default facet.seen.items p Never s inside ∙ s
 pub takes_first : (label : ℕ) (tallies : List FaceTally) (old : Facet) (p : ℕ) (s : Seen) (t : Vec FaceTally Global) → IsSound old
     → p < 2 ^ length old.corners.items → p ≡ pattern_on old label
     → s ≡ get_or old.seen.items p s → s ≡ Never → t.items ≡ tallies_on old tallies
-    → TakesLabel label tallies old (record old { seen = with_item old.seen p Alike; traces = with_item old.traces p t })
+    → TakesLabel label tallies old (record old { seen = with_item old.seen p (Alike label); traces = with_item old.traces p t })
 takes_first label tallies old p s t sound less is read never told =
     let in_seen : p < length old.seen.items = let w = sound.seen in omega arith in
     let in_traces : p < length old.traces.items = let w = sound.traces in omega arith in
@@ -48,22 +48,22 @@ takes_first label tallies old p s t sound less is read never told =
       corners = refl;
       edges = refl;
       set = refl;
-      seen = length-set old.seen.items p Alike;
+      seen = length-set old.seen.items p (Alike label);
       traces = length-set old.traces.items p t;
       here =
           subst
           (λ q.
-          TakesTallies (tallies_on old tallies) (seen_at old q) (tallies_at old q) (get_or (set old.seen.items p Alike) q Never)
+          TakesTallies label (tallies_on old tallies) (seen_at old q) (tallies_at old q) (get_or (set old.seen.items p (Alike label)) q Never)
           (get_or (lists (set old.traces.items p t)) q []))
           is
-          (subst (λ b. TakesTallies (tallies_on old tallies) b (tallies_at old p) (get_or (set old.seen.items p Alike) p Never)
+          (subst (λ b. TakesTallies label (tallies_on old tallies) b (tallies_at old p) (get_or (set old.seen.items p (Alike label)) p Never)
           (get_or (lists (set old.traces.items p t)) p [])) (sym (seen_is old p s in_seen read ∙ never)) (
-            get_or-set_same old.seen.items p Alike Never in_seen,
+            get_or-set_same old.seen.items p (Alike label) Never in_seen,
             ap (λ l. get_or l p []) (map-set (λ (k : Vec FaceTally Global). k.items) old.traces.items p t)
                 ∙ get_or-set_same (lists old.traces.items) p t.items [] wide ∙ told,
           ));
       others = λ q other. (
-        get_or-set_other old.seen.items p q Alike Never (λ e. other (e ∙ is)),
+        get_or-set_other old.seen.items p q (Alike label) Never (λ e. other (e ∙ is)),
         ap (λ l. get_or l q []) (map-set (λ (k : Vec FaceTally Global). k.items) old.traces.items p t)
             ∙ get_or-set_other (lists old.traces.items) p q t.items [] (λ e. other (e ∙ is)),
       );
@@ -74,46 +74,46 @@ takes_first label tallies old p s t sound less is read never told =
     length-lists (v ∷ vs) = let r = length-lists vs in omega arith
 
 -- a label that differs from the first one with its pattern
-pub takes_other : (label : ℕ) (tallies : List FaceTally) (old : Facet) (p : ℕ) (s : Seen) → IsSound old → p < 2 ^ length old.corners.items
+pub takes_other : (label : ℕ) (tallies : List FaceTally) (old : Facet) (p first : ℕ) (s : Seen) → IsSound old → p < 2 ^ length old.corners.items
     → p ≡ pattern_on old label
-    → s ≡ get_or old.seen.items p s → s ≡ Alike → (tallies_at old p ≡ tallies_on old tallies → ⊥)
-    → TakesLabel label tallies old (record old { seen = with_item old.seen p Unlike })
-takes_other label tallies old p s sound less is read alike differs =
+    → s ≡ get_or old.seen.items p s → s ≡ Alike first → (tallies_at old p ≡ tallies_on old tallies → ⊥)
+    → TakesLabel label tallies old (record old { seen = with_item old.seen p (Unlike first label) })
+takes_other label tallies old p first s sound less is read alike differs =
     let in_seen : p < length old.seen.items = let w = sound.seen in omega arith in
     record {
       corners = refl;
       edges = refl;
       set = refl;
-      seen = length-set old.seen.items p Unlike;
+      seen = length-set old.seen.items p (Unlike first label);
       traces = refl;
       here =
           subst
           (λ q.
-          TakesTallies (tallies_on old tallies) (seen_at old q) (tallies_at old q) (get_or (set old.seen.items p Unlike) q Never)
+          TakesTallies label (tallies_on old tallies) (seen_at old q) (tallies_at old q) (get_or (set old.seen.items p (Unlike first label)) q Never)
           (tallies_at old q))
           is
-          (subst (λ b. TakesTallies (tallies_on old tallies) b (tallies_at old p) (get_or (set old.seen.items p Unlike) p Never) (tallies_at old p))
+          (subst (λ b. TakesTallies label (tallies_on old tallies) b (tallies_at old p) (get_or (set old.seen.items p (Unlike first label)) p Never) (tallies_at old p))
           (sym (seen_is old p s in_seen read ∙ alike))
-          (refl, inr (get_or-set_same old.seen.items p Unlike Never in_seen, differs)));
-      others = λ q other. (get_or-set_other old.seen.items p q Unlike Never (λ e. other (e ∙ is)), refl);
+          (refl, inr (get_or-set_same old.seen.items p (Unlike first label) Never in_seen, differs)));
+      others = λ q other. (get_or-set_other old.seen.items p q (Unlike first label) Never (λ e. other (e ∙ is)), refl);
     }
 
 -- a label that has the trace of the first one with its pattern
-pub takes_same : (label : ℕ) (tallies : List FaceTally) (old : Facet) (p : ℕ) (s : Seen) → IsSound old → p < 2 ^ length old.corners.items
+pub takes_same : (label : ℕ) (tallies : List FaceTally) (old : Facet) (p first : ℕ) (s : Seen) → IsSound old → p < 2 ^ length old.corners.items
     → p ≡ pattern_on old label
-    → s ≡ get_or old.seen.items p s → s ≡ Alike → tallies_at old p ≡ tallies_on old tallies
+    → s ≡ get_or old.seen.items p s → s ≡ Alike first → tallies_at old p ≡ tallies_on old tallies
     → TakesLabel label tallies old old
-takes_same label tallies old p s sound less is read alike same =
+takes_same label tallies old p first s sound less is read alike same =
     let in_seen : p < length old.seen.items = let w = sound.seen in omega arith in
-    let at : seen_at old p ≡ Alike = seen_is old p s in_seen read ∙ alike in
+    let at : seen_at old p ≡ Alike first = seen_is old p s in_seen read ∙ alike in
     record {
       corners = refl;
       edges = refl;
       set = refl;
       seen = refl;
       traces = refl;
-      here = subst (λ q. TakesTallies (tallies_on old tallies) (seen_at old q) (tallies_at old q) (seen_at old q) (tallies_at old q)) is
-          (subst (λ b. TakesTallies (tallies_on old tallies) b (tallies_at old p) (seen_at old p) (tallies_at old p)) (sym at) (refl, inl (at, same)));
+      here = subst (λ q. TakesTallies label (tallies_on old tallies) (seen_at old q) (tallies_at old q) (seen_at old q) (tallies_at old q)) is
+          (subst (λ b. TakesTallies label (tallies_on old tallies) b (tallies_at old p) (seen_at old p) (tallies_at old p)) (sym at) (refl, inl (at, same)));
       others = λ q other. (refl, refl);
     }
 

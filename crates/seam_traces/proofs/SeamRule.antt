@@ -1,20 +1,22 @@
 -- The rule of seams at a label, by patterns and traces.
 use Rattle.std.specs.Prelude.{◌≡◌, ℕ, ℤ, pos, ◌+ℤ◌, zero, suc, ◌+◌, ◌-◌, ◌*◌, ◌<◌, Bool, true, false, not, ◌&&◌, ◌==◌, List, [], ◌∷◌}
-use Rattle.std.specs.Prelude.{map, if◌then◌else◌}
+use Rattle.std.specs.Prelude.{Option, Some, None, MatchOption, is_some, IsTrue, map, length, slice_index_or, if◌then◌else◌}
 use Rattle.std.specs.List.{list_all, range_with_len}
-use Rattle.std.proofs.Common.{refl, sym, ap, ◌∙◌, subst, arith}
+use Rattle.std.proofs.Common.{refl, sym, ap, ◌∙◌, subst, arith, inl, inr}
 use Rattle.std.proofs.lemmas.Bool.{false≢true, eq-eqb, eqb-true, and_parts, and_from}
 use Rattle.std.proofs.lemmas.Int.{ints}
 use Rattle.iso_model.specs.declared.Kind.{Kind}
 use Rattle.lists.specs.Orders.{choices}
 use Rattle.iso_model.specs.Turns.{signed}
 use Rattle.iso_model.specs.Cells.{facet_corners, facet_edges, label_count}
-use Rattle.iso_model.specs.Seams.{Seam, corner_across, edge_across}
+use Rattle.iso_model.specs.Seams.{Seam, seam, corner_across, edge_across}
 use Rattle.iso_model.specs.CellLaws.{MeetsCorners, KeepsEdges}
 use Rattle.iso_model.specs.Faces.{face_count, face_sum}
 use Rattle.iso_model.specs.Tables.{Table, entry_of}
-use Rattle.iso_model.specs.Acceptance.{labels_meet, sums_match, entries_meet, meets_across}
+use Rattle.iso_model.specs.Acceptance.{labels_meet, sums_match, entries_meet, meets_across, rule_seams}
 use Rattle.seam_traces.specs.Traces.{number_of_bits, pattern, trace, trace_across, keeps_seam}
+use Rattle.seam_traces.specs.declared.clashes.Clash.{Clash}
+use Rattle.seam_traces.specs.Clashes.{IsLeastFailing, ClashesAt, IsFirstClash, TellsClash}
 use Rattle.seam_traces.proofs.ChosenFaces.{choices-map}
 use Rattle.seam_traces.proofs.Lookups.{counts_across}
 use Rattle.seam_traces.proofs.KeptTraces.{face_counts}
@@ -146,6 +148,17 @@ Corresponds t n f g same label =
     (m : ℕ) → m < n → pattern t.kind t.dimension g m ≡ pattern t.kind t.dimension f label
     → trace t.kind t.dimension g (entry_of t m) ≡ trace_across same (trace t.kind t.dimension f (entry_of t label))
 
+-- a label is the least below n with the pattern of a label on another facet whose trace does not correspond to its own
+pub record IsLeastAgainst (t : Table) (n f g : ℕ) (same : Bool) (label m : ℕ) : Type 0 where
+  pub is_label : m < n
+  pub has_pattern : pattern t.kind t.dimension g m ≡ pattern t.kind t.dimension f label
+  pub differs : trace t.kind t.dimension g (entry_of t m) ≡ trace_across same (trace t.kind t.dimension f (entry_of t label)) → ⊥
+  pub before : Corresponds t m f g same label
+
+-- the answer is the least label against a label, and none where all correspond
+abbrev pub TellsAgainst : Table → ℕ → ℕ → ℕ → Bool → ℕ → Option ℕ → Type 0
+TellsAgainst t n f g same label answer = MatchOption answer (Corresponds t n f g same label) (IsLeastAgainst t n f g same label)
+
 meets_traces : (t : Table) (s : Seam) (here there : ℕ) → MeetsCorners t.kind t.dimension s → KeepsEdges t.kind t.dimension s
     → meets_across t s here there ≡ true
     → pattern t.kind t.dimension s.facet here ≡ pattern t.kind t.dimension s.other there
@@ -191,32 +204,102 @@ below_each p a (suc n) f =
     and_from (p a) (list_all p (range_with_len (a + 1) n)) (let e : a + 0 ≡ a = omega arith in subst (λ k. p k ≡ true) e (f 0 (omega arith)))
     (below_each p (a + 1) n (λ m less. let e : a + suc m ≡ a + 1 + m = omega arith in subst (λ k. p k ≡ true) e (f (suc m) (omega arith))))
 
--- a label keeps the rule at a seam exactly where it corresponds from each end of the seam to the other
-pub kept_corresponds : (t : Table) (label : ℕ) (s : Seam) → MeetsCorners t.kind t.dimension s → KeepsEdges t.kind t.dimension s → keeps_seam t label s ≡ true
-    → Corresponds t (label_count t.kind t.dimension) s.facet s.other s.same_parity label
-    × Corresponds t (label_count t.kind t.dimension) s.other s.facet s.same_parity label
-kept_corresponds t label s corners edges h = (
-  λ m less e. meets_traces t s label m corners edges (both m less).0 (sym e),
-  λ m less e.
-      crossed s.same_parity (trace t.kind t.dimension s.other (entry_of t label)) (trace t.kind t.dimension s.facet (entry_of t m))
-      (meets_traces t s m label corners edges (both m less).1 e),
-)
-  where
-    both : (m : ℕ) → m < label_count t.kind t.dimension → (meets_across t s label m ≡ true) × (meets_across t s m label ≡ true)
-    both m less =
-        let e : 0 + m ≡ m = omega arith in
-        let at = each_below (λ m. meets_across t s label m && meets_across t s m label) 0 (label_count t.kind t.dimension) h m less in
-        and_parts (meets_across t s label m) (meets_across t s m label) (subst (λ k. (meets_across t s label k && meets_across t s k label) ≡ true) e at)
+-- ---- the two directions of a seam
 
-pub corresponds_kept : (t : Table) (label : ℕ) (s : Seam) → MeetsCorners t.kind t.dimension s → KeepsEdges t.kind t.dimension s
-    → Corresponds t (label_count t.kind t.dimension) s.facet s.other s.same_parity label
-    → Corresponds t (label_count t.kind t.dimension) s.other s.facet s.same_parity label
-    → keeps_seam t label s ≡ true
-corresponds_kept t label s corners edges one two =
+-- the label at the first facet of a seam meets each label at its second
+abbrev pub MeetsForwards : Table → ℕ → Seam → Type 0
+MeetsForwards t label s = (m : ℕ) → m < label_count t.kind t.dimension → IsTrue (meets_across t s label m)
+
+-- the label at the second facet of a seam meets each label at its first
+abbrev pub MeetsBackwards : Table → ℕ → Seam → Type 0
+MeetsBackwards t label s = (m : ℕ) → m < label_count t.kind t.dimension → IsTrue (meets_across t s m label)
+
+-- the answer is the least label that a label at the first facet does not meet at the second, and none where it meets each
+abbrev pub TellsForwards : Table → ℕ → Seam → Option ℕ → Type 0
+TellsForwards t label s answer =
+    MatchOption answer (MeetsForwards t label s) (IsLeastFailing (λ m. meets_across t s label m) (label_count t.kind t.dimension))
+
+-- the answer is the least label that a label at the second facet does not meet at the first, and none where it meets each
+abbrev pub TellsBackwards : Table → ℕ → Seam → Option ℕ → Type 0
+TellsBackwards t label s answer =
+    MatchOption answer (MeetsBackwards t label s) (IsLeastFailing (λ m. meets_across t s m label) (label_count t.kind t.dimension))
+
+pub forwards : (t : Table) (label : ℕ) (s : Seam) (answer : Option ℕ) → MeetsCorners t.kind t.dimension s → KeepsEdges t.kind t.dimension s
+    → TellsAgainst t (label_count t.kind t.dimension) s.facet s.other s.same_parity label answer → TellsForwards t label s answer
+forwards t label s None corners edges all = λ m less. traces_meets t s label m corners edges (λ p. all m less (sym p))
+forwards t label s (Some m) corners edges h = record {
+  below = h.is_label;
+  fails = λ meets. h.differs (meets_traces t s label m corners edges meets (sym h.has_pattern));
+  least = λ k less. traces_meets t s label k corners edges (λ p. h.before k less (sym p));
+}
+
+pub backwards : (t : Table) (label : ℕ) (s : Seam) (answer : Option ℕ) → MeetsCorners t.kind t.dimension s → KeepsEdges t.kind t.dimension s
+    → TellsAgainst t (label_count t.kind t.dimension) s.other s.facet s.same_parity label answer → TellsBackwards t label s answer
+backwards t label s None corners edges all = λ m less.
+    traces_meets t s m label corners edges
+    (λ p.
+    crossed s.same_parity (trace t.kind t.dimension s.facet (entry_of t m)) (trace t.kind t.dimension s.other (entry_of t label)) (all m less p))
+backwards t label s (Some m) corners edges h = record {
+  below = h.is_label;
+  fails = λ meets. h.differs (
+      crossed s.same_parity (trace t.kind t.dimension s.other (entry_of t label)) (trace t.kind t.dimension s.facet (entry_of t m))
+      (meets_traces t s m label corners edges meets h.has_pattern));
+  least = λ k less.
+      traces_meets t s k label corners edges
+      (λ p.
+      crossed s.same_parity (trace t.kind t.dimension s.facet (entry_of t k)) (trace t.kind t.dimension s.other (entry_of t label)) (h.before k less p));
+}
+
+-- ---- a label keeps the rule at a seam exactly where it meets each label in both directions
+
+pub meets_both : (t : Table) (label : ℕ) (s : Seam) → keeps_seam t label s ≡ true → (m : ℕ) → m < label_count t.kind t.dimension
+    → (meets_across t s label m ≡ true) × (meets_across t s m label ≡ true)
+meets_both t label s h m less =
+    let e : 0 + m ≡ m = omega arith in
+    let at = each_below (λ m. meets_across t s label m && meets_across t s m label) 0 (label_count t.kind t.dimension) h m less in
+    and_parts (meets_across t s label m) (meets_across t s m label) (subst (λ k. (meets_across t s label k && meets_across t s k label) ≡ true) e at)
+
+pub both_kept : (t : Table) (label : ℕ) (s : Seam) → MeetsForwards t label s → MeetsBackwards t label s → keeps_seam t label s ≡ true
+both_kept t label s one two =
     below_each (λ m. meets_across t s label m && meets_across t s m label) 0 (label_count t.kind t.dimension) (λ m less.
     let e : m ≡ 0 + m = omega arith in
     subst (λ k. (meets_across t s label k && meets_across t s k label) ≡ true) e
-    (and_from (meets_across t s label m) (meets_across t s m label)
-    (traces_meets t s label m corners edges (λ p. one m less (sym p)))
-    (traces_meets t s m label corners edges
-    (λ p. crossed s.same_parity (trace t.kind t.dimension s.facet (entry_of t m)) (trace t.kind t.dimension s.other (entry_of t label)) (two m less p)))))
+    (and_from (meets_across t s label m) (meets_across t s m label) (one m less) (two m less)))
+
+-- a label with a clash at a seam breaks the rule there
+pub clash_fails : (t : Table) (label : ℕ) (s : Seam) (c : Clash) → ClashesAt t label s c → keeps_seam t label s ≡ true → ⊥
+clash_fails t label s c (inl f) kept = f.other.fails (meets_both t label s kept c.other f.other.below).0
+clash_fails t label s c (inr b) kept = b.other.fails (meets_both t label s kept c.other b.other.below).1
+
+-- ---- all seams
+
+pub keeps_all : (t : Table) (label : ℕ) (ss : List Seam)
+    → ((k : ℕ) (s : Seam) → k < length ss → keeps_seam t label (slice_index_or ss k s) ≡ true) → rule_seams ss t label ≡ true
+keeps_all t label [] h = refl
+keeps_all t label (s ∷ ss) h =
+    and_from (keeps_seam t label s) (rule_seams ss t label) (h 0 s (omega arith)) (keeps_all t label ss (λ k x less. h (suc k) x (omega arith)))
+
+-- a label that keeps the rule over seams keeps it at each
+pub kept_each : (t : Table) (label : ℕ) (ss : List Seam) (k : ℕ) (s : Seam) → k < length ss → rule_seams ss t label ≡ true
+    → keeps_seam t label (slice_index_or ss k s) ≡ true
+kept_each t label [] k s less h = absurd (omega arith)
+kept_each t label (x ∷ ss) zero s less h = (and_parts (keeps_seam t label x) (rule_seams ss t label) h).0
+kept_each t label (x ∷ ss) (suc k) s less h = kept_each t label ss k s (omega arith) (and_parts (keeps_seam t label x) (rule_seams ss t label) h).1
+
+-- a label with a first clash breaks the rule
+pub first_clash_fails : (ss : List Seam) (t : Table) (label : ℕ) (c : Clash) → IsFirstClash ss t label c → rule_seams ss t label ≡ true → ⊥
+first_clash_fails ss t label c first kept =
+    let none = seam 0 0 false in
+    clash_fails t label (slice_index_or ss first.place none) c (first.clashes none) (kept_each t label ss first.place none first.inside kept)
+
+-- the rule of seams, by whether a first clash is answered
+pub told_rule : (ss : List Seam) (t : Table) (label : ℕ) (answer : Option Clash) (b : Bool) → is_some answer ≡ not b → TellsClash ss t label answer
+    → b ≡ rule_seams ss t label
+told_rule ss t label None true e kept = sym kept
+told_rule ss t label None false e kept = absurd (false≢true e)
+told_rule ss t label (Some c) true e first = absurd (false≢true (sym e))
+told_rule ss t label (Some c) false e first = no_from (rule_seams ss t label) (first_clash_fails ss t label c first)
+  where
+    no_from : (b : Bool) → (b ≡ true → ⊥) → false ≡ b
+    no_from true h = absurd (h refl)
+    no_from false h = refl

@@ -1,8 +1,8 @@
 -- What is kept of the labels of a table tells how they compare, and so whether a label keeps the rule of seams.
-use Rattle.std.specs.Prelude.{◌≡◌, ◌↔◌, ℕ, ℤ, zero, suc, ◌+◌, ◌*◌, ◌^◌, ◌<◌, ◌≤◌, Bool, true, false, ◌&&◌, List, [], ◌∷◌, map, filter, length, All}
-use Rattle.std.specs.Prelude.{slice_index_or}
+use Rattle.std.specs.Prelude.{◌≡◌, ◌↔◌, ℕ, ℤ, zero, suc, ◌+◌, ◌*◌, ◌^◌, ◌<◌, ◌≤◌, Bool, true, false, List, [], ◌∷◌, map, filter, length, All}
+use Rattle.std.specs.Prelude.{Option, slice_index_or}
 use Rattle.std.proofs.Common.{get_or, refl, sym, ap, ◌∙◌, subst, arith, inl, inr}
-use Rattle.std.proofs.lemmas.Bool.{cases_eq, cases_lt, and_from, and_right}
+use Rattle.std.proofs.lemmas.Bool.{cases_eq, cases_lt}
 use Rattle.std.proofs.lemmas.Nat.{pow-add}
 use Rattle.iso_model.specs.declared.Kind.{Kind}
 use Rattle.lists.specs.Orders.{numbers}
@@ -10,24 +10,23 @@ use Rattle.iso_model.specs.Cells.{HasDimension, corner_count, edge_count, facet_
 use Rattle.iso_model.specs.Seams.{Seam, corner_across}
 use Rattle.iso_model.specs.CellLaws.{MeetsCorners, KeepsEdges}
 use Rattle.iso_model.specs.Tables.{Table, entry_of}
-use Rattle.iso_model.specs.Acceptance.{rule_seams}
 use Rattle.iso_model.specs.Dimensions.{IsDimension}
 use Rattle.face_tallies.specs.declared.faces.FaceTally.{FaceTally}
 use Rattle.face_tallies.specs.Tallies.{AreTallies}
 use Rattle.seam_traces.specs.declared.facets.Facet.{Facet}
 use Rattle.seam_traces.specs.declared.facets.Seen.{Seen}
 use Rattle.seam_traces.specs.declared.facets.Seen.TheVariants.{Never, Alike, Unlike}
-use Rattle.seam_traces.specs.Traces.{number_of_bits, places, pattern, trace, trace_across, keeps_seam}
-use Rattle.seam_traces.specs.TallyLists.{tallies_in, TellTrace}
+use Rattle.seam_traces.specs.Traces.{number_of_bits, places, pattern, trace, trace_across}
+use Rattle.seam_traces.specs.TallyLists.{tallies_in, tallies_across, TellTrace}
 use Rattle.seam_traces.specs.declared.seams.FacetSeam.{FacetSeam}
 use Rattle.seam_traces.specs.SeamLists.{seam_of, seams_of, IsSeamOf, AreSeamsOf}
-use Rattle.seam_traces.specs.Kept.{seen_at, tallies_at, IsSound, pattern_on, tallies_on, TakesTallies, TakesLabel, EachTakesLabel, Matches, MatchesAt}
+use Rattle.seam_traces.specs.Kept.{seen_at, tallies_at, IsSound, pattern_on, tallies_on, TakesTallies, TakesLabel, EachTakesLabel, IsAgainst, IsAgainstAt}
 use Rattle.seam_traces.specs.Kept.{IsFacetOf}
-use Rattle.seam_traces.specs.Kept.{AreFacetsOf, HaveTrace, HaveTwoTraces, TellsPattern, TellLabels, TellTable}
+use Rattle.seam_traces.specs.Kept.{AreFacetsOf, IsFirstWith, HaveTrace, HaveTwoTraces, TellsPattern, TellLabels, TellTable}
 use Rattle.seam_traces.proofs.FacetLists.{range_in, few_edges, members_few, face_places, seam_places}
 use Rattle.seam_traces.proofs.KeptTraces.{traces_correspond, tallies_correspond}
 use Rattle.seam_traces.proofs.KeptSteps.{across_same}
-use Rattle.seam_traces.proofs.SeamRule.{Corresponds, kept_corresponds, corresponds_kept}
+use Rattle.seam_traces.proofs.SeamRule.{Corresponds, IsLeastAgainst, TellsAgainst, TellsForwards, TellsBackwards, forwards, backwards}
 use Rattle.lists.specs.Bits.{is_set, set_number}
 use Rattle.lists.proofs.MemberLaws.{from_filter, All-from_In}
 use Rattle.iso_model.proofs.CellCounts.{few_corners}
@@ -85,32 +84,30 @@ straight : (cs : List (ℕ × ℤ)) → trace_across false cs ≡ cs
 straight [] = refl
 straight (c ∷ cs) = ap (λ l. c ∷ l) (straight cs)
 
-have_more : (t : Table) (n f p : ℕ) (kept : List FaceTally) → (h : HaveTrace t n f p kept)
-    → (pattern t.kind t.dimension f n ≡ p → trace t.kind t.dimension f (entry_of t n) ≡ trace t.kind t.dimension f (entry_of t h.first))
-    → HaveTrace t (n + 1) f p kept
-have_more t n f p kept h last = record {
-  first = h.first;
+have_more : (t : Table) (n f p first : ℕ) (kept : List FaceTally) → HaveTrace t n f p first kept
+    → (pattern t.kind t.dimension f n ≡ p → trace t.kind t.dimension f (entry_of t n) ≡ trace t.kind t.dimension f (entry_of t first))
+    → HaveTrace t (n + 1) f p first kept
+have_more t n f p first kept h last = record {
   is_label = let less = h.is_label in omega arith;
-  has_pattern = h.has_pattern;
-  tells = h.tells;
+  is_first = h.is_first;
   alike = λ m less e. elim (cases_lt m n) [
     | inl before ↦ h.alike m before e
     | inr behind ↦
         let same : n ≡ m = omega arith in
-        subst (λ k. trace t.kind t.dimension f (entry_of t k) ≡ trace t.kind t.dimension f (entry_of t h.first)) same
+        subst (λ k. trace t.kind t.dimension f (entry_of t k) ≡ trace t.kind t.dimension f (entry_of t first)) same
         (last (subst (λ k. pattern t.kind t.dimension f k ≡ p) (sym same) e))
   ];
 }
 
-two_more : (t : Table) (n f p : ℕ) → HaveTwoTraces t n f p → HaveTwoTraces t (n + 1) f p
-two_more t n f p h = record {
-  one = h.one;
-  other = h.other;
-  one_label = let less = h.one_label in omega arith;
+two_more : (t : Table) (n f p first other : ℕ) (kept : List FaceTally) → HaveTwoTraces t n f p first other kept
+    → HaveTwoTraces t (n + 1) f p first other kept
+two_more t n f p first other kept h = record {
+  is_label = let less = h.is_label in omega arith;
+  is_first = h.is_first;
   other_label = let less = h.other_label in omega arith;
-  one_pattern = h.one_pattern;
   other_pattern = h.other_pattern;
   differ = h.differ;
+  alike_before = h.alike_before;
 }
 
 -- a label with another pattern
@@ -120,49 +117,59 @@ tells_other t n f p Never kept other h = λ m less e. elim (cases_lt m n) [
   | inl before ↦ h m before e
   | inr behind ↦ let same : n ≡ m = omega arith in other (subst (λ k. pattern t.kind t.dimension f k ≡ p) (sym same) e)
 ]
-tells_other t n f p Alike kept other h = have_more t n f p kept h (λ e. absurd (other e))
-tells_other t n f p Unlike kept other h = two_more t n f p h
+tells_other t n f p (Alike first) kept other h = have_more t n f p first kept h (λ e. absurd (other e))
+tells_other t n f p (Unlike first second) kept other h = two_more t n f p first second kept h
+
+-- the trace of a label is that of the first one with its pattern exactly where their tallies are the same
+same_traces : (t : Table) (f n first : ℕ) (kept more : List FaceTally) → IsDimension t.dimension → HasDimension t.kind t.dimension
+    → TellTrace t.kind t.dimension f (entry_of t first) kept → TellTrace t.kind t.dimension f (entry_of t n) more
+    → (kept ≡ more) ↔ (trace t.kind t.dimension f (entry_of t n) ≡ trace t.kind t.dimension f (entry_of t first))
+same_traces t f n first kept more is has one two = (
+  λ e. traces_correspond t.kind t.dimension f f is has false (entry_of t first) (entry_of t n) kept more refl one two (sym e ∙ sym (across_same kept))
+      ∙ straight (trace t.kind t.dimension f (entry_of t first)),
+  λ e. tallies_correspond t.kind t.dimension f f is has false (entry_of t n) (entry_of t first) more kept refl two one
+      (sym e ∙ sym (straight (trace t.kind t.dimension f (entry_of t n))))
+      ∙ across_same more,
+)
 
 -- a label with this pattern
 tells_here : (t : Table) (n f p : ℕ) (s s' : Seen) (kept kept' more : List FaceTally) → IsDimension t.dimension → HasDimension t.kind t.dimension
     → pattern t.kind t.dimension f n ≡ p
-    → TellTrace t.kind t.dimension f (entry_of t n) more → TakesTallies more s kept s' kept' → TellsPattern t n f p s kept → TellsPattern t (n + 1) f p s' kept'
+    → TellTrace t.kind t.dimension f (entry_of t n) more → TakesTallies n more s kept s' kept' → TellsPattern t n f p s kept
+    → TellsPattern t (n + 1) f p s' kept'
 tells_here t n f p Never s' kept kept' more is has here tell takes h =
-    let whole : HaveTrace t (n + 1) f p kept' = record {
-      first = n;
+    let whole : HaveTrace t (n + 1) f p n kept' = record {
       is_label = omega arith;
-      has_pattern = here;
-      tells = subst (TellTrace t.kind t.dimension f (entry_of t n)) (sym takes.1) tell;
+      is_first = record {
+        has_pattern = here;
+        tells = subst (TellTrace t.kind t.dimension f (entry_of t n)) (sym takes.1) tell;
+        none_before = h;
+      };
       alike = λ m less e. elim (cases_lt m n) [
         | inl before ↦ absurd (h m before e)
         | inr behind ↦ let same : m ≡ n = omega arith in ap (λ k. trace t.kind t.dimension f (entry_of t k)) same
       ];
     } in
     subst (λ b. TellsPattern t (n + 1) f p b kept') (sym takes.0) whole
-tells_here t n f p Alike s' kept kept' more is has here tell takes h = elim takes.1 [
+tells_here t n f p (Alike first) s' kept kept' more is has here tell takes h = elim takes.1 [
   | inl same ↦
-      let corresponds : trace t.kind t.dimension f (entry_of t n) ≡ trace t.kind t.dimension f (entry_of t h.first) =
-      traces_correspond t.kind t.dimension f f is has false (entry_of t h.first) (entry_of t n) kept more refl h.tells tell
-      (sym same.1 ∙ sym (across_same kept))
-      ∙ straight (trace t.kind t.dimension f (entry_of t h.first)) in
-      let whole : HaveTrace t (n + 1) f p kept = have_more t n f p kept h (λ e. corresponds) in
-      subst (λ b. TellsPattern t (n + 1) f p b kept') (sym same.0) (subst (λ l. HaveTrace t (n + 1) f p l) (sym takes.0) whole)
+      let traces = (same_traces t f n first kept more is has h.is_first.tells tell).0 same.1 in
+      let whole : HaveTrace t (n + 1) f p first kept = have_more t n f p first kept h (λ e. traces) in
+      subst (λ b. TellsPattern t (n + 1) f p b kept') (sym same.0) (subst (λ l. HaveTrace t (n + 1) f p first l) (sym takes.0) whole)
   | inr other ↦
-      let whole : HaveTwoTraces t (n + 1) f p = record {
-        one = h.first;
-        other = n;
-        one_label = let less = h.is_label in omega arith;
+      let whole : HaveTwoTraces t (n + 1) f p first n kept = record {
+        is_label = let less = h.is_label in omega arith;
+        is_first = h.is_first;
         other_label = omega arith;
-        one_pattern = h.has_pattern;
         other_pattern = here;
-        differ = λ e. other.1 (
-            tallies_correspond t.kind t.dimension f f is has false (entry_of t n) (entry_of t h.first) more kept refl tell h.tells
-            (e ∙ sym (straight (trace t.kind t.dimension f (entry_of t n))))
-            ∙ across_same more);
+        differ = λ e. other.1 ((same_traces t f n first kept more is has h.is_first.tells tell).1 e);
+        alike_before = h.alike;
       } in
-      subst (λ b. TellsPattern t (n + 1) f p b kept') (sym other.0) whole
+      subst (λ b. TellsPattern t (n + 1) f p b kept') (sym other.0) (subst (λ l. HaveTwoTraces t (n + 1) f p first n l) (sym takes.0) whole)
 ]
-tells_here t n f p Unlike s' kept kept' more is has here tell takes h = subst (λ b. TellsPattern t (n + 1) f p b kept') (sym takes.0) (two_more t n f p h)
+tells_here t n f p (Unlike first second) s' kept kept' more is has here tell takes h =
+    subst (λ b. TellsPattern t (n + 1) f p b kept') (sym takes.0)
+    (subst (λ l. HaveTwoTraces t (n + 1) f p first second l) (sym takes.1) (two_more t n f p first second kept h))
 
 tells_facet : (t : Table) (n f p : ℕ) (tallies : List FaceTally) (old new : Facet) → IsDimension t.dimension → HasDimension t.kind t.dimension
     → IsFacetOf t.kind t.dimension f old
@@ -173,7 +180,7 @@ tells_facet t n f p tallies old new is has facet are takes h =
     elim (cases_eq p (pattern_on old n)) [
       | inl e ↦
           let takes_here =
-          subst (λ q. TakesTallies (tallies_on old tallies) (seen_at old q) (tallies_at old q) (seen_at new q) (tallies_at new q)) (sym e)
+          subst (λ q. TakesTallies n (tallies_on old tallies) (seen_at old q) (tallies_at old q) (seen_at new q) (tallies_at new q)) (sym e)
           takes.here in
           let tell : TellTrace t.kind t.dimension f (entry_of t n) (tallies_on old tallies) =
           record { tallies = tallies; are_tallies = are; kept_are = ap (λ (l : List ℕ). tallies_in l tallies) facet.edges } in
@@ -205,27 +212,51 @@ tells_none t facets never count f p x in_f in_p =
 
 -- ---- a label at the ends of a seam
 
-match_all : (t : Table) (n f g : ℕ) (same : Bool) (label : ℕ) (more : List FaceTally) (s : Seen) (kept : List FaceTally) → IsDimension t.dimension
+first_against : (t : Table) (n f g : ℕ) (same : Bool) (label first : ℕ) (more kept : List FaceTally) → IsDimension t.dimension
     → HasDimension t.kind t.dimension
     → face_places t.kind t.dimension f ≡ face_places t.kind t.dimension g → TellTrace t.kind t.dimension f (entry_of t label) more
-    → TellsPattern t n g (pattern t.kind t.dimension f label) s kept
-    → Matches same more s kept → Corresponds t n f g same label
-match_all t n f g same label more Never kept is has e tell h match = λ m less p. absurd (h m less p)
-match_all t n f g same label more Alike kept is has e tell h match =
-    λ m less p. h.alike m less p ∙ traces_correspond t.kind t.dimension f g is has same (entry_of t label) (entry_of t h.first) more kept e tell h.tells match
-match_all t n f g same label more Unlike kept is has e tell h match = absurd match
+    → first < n → IsFirstWith t g (pattern t.kind t.dimension f label) first kept
+    → (kept ≡ tallies_across same more → ⊥) → IsLeastAgainst t n f g same label first
+first_against t n f g same label first more kept is has e tell less h differs = record {
+  is_label = less;
+  has_pattern = h.has_pattern;
+  differs = λ d. differs (
+      tallies_correspond t.kind t.dimension f g is has same (entry_of t label) (entry_of t first) more kept e tell h.tells d);
+  before = λ m low p. absurd (h.none_before m low p);
+}
 
-all_match : (t : Table) (n f g : ℕ) (same : Bool) (label : ℕ) (more : List FaceTally) (s : Seen) (kept : List FaceTally) → IsDimension t.dimension
-    → HasDimension t.kind t.dimension
+told_against : (t : Table) (n f g : ℕ) (same : Bool) (label : ℕ) (more : List FaceTally) (s : Seen) (kept : List FaceTally) (answer : Option ℕ)
+    → IsDimension t.dimension → HasDimension t.kind t.dimension
     → face_places t.kind t.dimension f ≡ face_places t.kind t.dimension g → TellTrace t.kind t.dimension f (entry_of t label) more
     → TellsPattern t n g (pattern t.kind t.dimension f label) s kept
-    → Corresponds t n f g same label → Matches same more s kept
-all_match t n f g same label more Never kept is has e tell h all = tt
-all_match t n f g same label more Alike kept is has e tell h all =
-    tallies_correspond t.kind t.dimension f g is has same (entry_of t label) (entry_of t h.first) more kept e tell h.tells
-    (all h.first h.is_label h.has_pattern)
-all_match t n f g same label more Unlike kept is has e tell h all =
-    h.differ (all h.one h.one_label h.one_pattern ∙ sym (all h.other h.other_label h.other_pattern))
+    → IsAgainst same more s kept answer → TellsAgainst t n f g same label answer
+told_against t n f g same label more Never kept answer is has e tell h told =
+    let all : Corresponds t n f g same label = λ m less p. absurd (h m less p) in subst (TellsAgainst t n f g same label) (sym told) all
+told_against t n f g same label more (Alike first) kept answer is has e tell h told = elim told [
+  | inl like ↦
+      let all : Corresponds t n f g same label = λ m less p.
+      h.alike m less p
+      ∙ traces_correspond t.kind t.dimension f g is has same (entry_of t label) (entry_of t first) more kept e tell h.is_first.tells like.0 in
+      subst (TellsAgainst t n f g same label) (sym like.1) all
+  | inr other ↦
+      subst (TellsAgainst t n f g same label) (sym other.1)
+      (first_against t n f g same label first more kept is has e tell h.is_label h.is_first other.0)
+]
+told_against t n f g same label more (Unlike first second) kept answer is has e tell h told = elim told [
+  | inl like ↦
+      let at =
+      traces_correspond t.kind t.dimension f g is has same (entry_of t label) (entry_of t first) more kept e tell h.is_first.tells like.0 in
+      let least : IsLeastAgainst t n f g same label second = record {
+        is_label = h.other_label;
+        has_pattern = h.other_pattern;
+        differs = λ d. h.differ (d ∙ sym at);
+        before = λ m less p. h.alike_before m less p ∙ at;
+      } in
+      subst (TellsAgainst t n f g same label) (sym like.1) least
+  | inr other ↦
+      subst (TellsAgainst t n f g same label) (sym other.1)
+      (first_against t n f g same label first more kept is has e tell h.is_label h.is_first other.0)
+]
 
 places_few : (members : List ℕ) (set : ℕ) → places members set < 2 ^ length members
 places_few [] set = omega arith
@@ -238,16 +269,16 @@ places_few (m ∷ members) set =
     by true h p = omega arith
     by false h p = omega arith
 
--- where the kept tallies of the facets tell of all labels, they match exactly where all labels correspond
-end_law : (t : Table) (facets : List Facet) (f g : ℕ) (same : Bool) (label : ℕ) (tallies : List FaceTally) (here there : Facet)
+-- where the kept tallies of the facets tell of all labels, what they say of a label is the least label against it
+end_law : (t : Table) (facets : List Facet) (f g : ℕ) (same : Bool) (label : ℕ) (tallies : List FaceTally) (here there : Facet) (answer : Option ℕ)
     → IsDimension t.dimension → HasDimension t.kind t.dimension
     → TellLabels t (label_count t.kind t.dimension) facets → IsFacetOf t.kind t.dimension f here → there ≡ get_or facets g there
     → g < facet_count t.kind t.dimension
     → length (facet_corners t.kind t.dimension f) ≡ length (facet_corners t.kind t.dimension g)
     → face_places t.kind t.dimension f ≡ face_places t.kind t.dimension g
     → AreTallies t.dimension (entry_of t label) tallies
-    → MatchesAt same label tallies here there ↔ Corresponds t (label_count t.kind t.dimension) f g same label
-end_law t facets f g same label tallies here there is has tell facet read in_g wide e are =
+    → IsAgainstAt same label tallies here there answer → TellsAgainst t (label_count t.kind t.dimension) f g same label answer
+end_law t facets f g same label tallies here there answer is has tell facet read in_g wide e are told =
     let n = label_count t.kind t.dimension in
     let p = pattern t.kind t.dimension f label in
     let on : pattern_on here label ≡ p = ap (λ (l : List ℕ). places l label) facet.corners in
@@ -255,12 +286,9 @@ end_law t facets f g same label tallies here there is has tell facet read in_g w
     let known : TellsPattern t n g p (seen_at there p) (tallies_at there p) =
     subst (λ (x : Facet). TellsPattern t n g p (seen_at x p) (tallies_at x p)) (sym read) (tell g p there in_g few) in
     let more : TellTrace t.kind t.dimension f (entry_of t label) (tallies_on here tallies) =
-    record { tallies = tallies; are_tallies = are; kept_are = ap (λ (l : List ℕ). tallies_in l tallies) facet.edges } in (
-      λ match. match_all t n f g same label (tallies_on here tallies) (seen_at there p) (tallies_at there p) is has e more known
-          (subst (λ q. Matches same (tallies_on here tallies) (seen_at there q) (tallies_at there q)) on match),
-      λ all. subst (λ q. Matches same (tallies_on here tallies) (seen_at there q) (tallies_at there q)) (sym on)
-          (all_match t n f g same label (tallies_on here tallies) (seen_at there p) (tallies_at there p) is has e more known all),
-    )
+    record { tallies = tallies; are_tallies = are; kept_are = ap (λ (l : List ℕ). tallies_in l tallies) facet.edges } in
+    told_against t n f g same label (tallies_on here tallies) (seen_at there p) (tallies_at there p) answer is has e more known
+    (subst (λ q. IsAgainst same (tallies_on here tallies) (seen_at there q) (tallies_at there q) answer) on told)
 
 -- what is known of a seam and of its two facets
 pub record IsSeam (kind : Kind) (d : ℕ) (facets : List Facet) (s : Seam) (x y : Facet) : Type 0 where
@@ -274,38 +302,41 @@ pub record IsSeam (kind : Kind) (d : ℕ) (facets : List Facet) (s : Seam) (x y 
   pub read : x ≡ get_or facets s.facet x
   pub other_read : y ≡ get_or facets s.other y
 
--- a label keeps the rule at a seam exactly where the kept tallies of each facet match those of the label on the other
-abbrev pub SeamLaw : Table → List Facet → ℕ → List FaceTally → Seam → Facet → Facet → Kind → ℕ → Type 0
-SeamLaw t facets label tallies s x y kind d =
+-- what the kept tallies of the two facets of a seam say of a label at its ends
+abbrev pub SeamLaw : Table → List Facet → ℕ → List FaceTally → Seam → Facet → Facet → Option ℕ → Option ℕ → Kind → ℕ → Type 0
+SeamLaw t facets label tallies s x y one two kind d =
     IsDimension d → HasDimension kind d → TellLabels t (label_count kind d) facets → IsSeam kind d facets s x y → AreTallies d (entry_of t label) tallies
-    → (MatchesAt s.same_parity label tallies x y × MatchesAt s.same_parity label tallies y x) ↔ (keeps_seam t label s ≡ true)
+    → (IsAgainstAt s.same_parity label tallies x y one → TellsForwards t label s one)
+    × (IsAgainstAt s.same_parity label tallies y x two → TellsBackwards t label s two)
 
-own_seam_law : (t : Table) (facets : List Facet) (label : ℕ) (tallies : List FaceTally) (s : Seam) (x y : Facet)
-    → SeamLaw t facets label tallies s x y t.kind t.dimension
-own_seam_law t facets label tallies s x y is has tell seam are =
+own_seam_law : (t : Table) (facets : List Facet) (label : ℕ) (tallies : List FaceTally) (s : Seam) (x y : Facet) (one two : Option ℕ)
+    → SeamLaw t facets label tallies s x y one two t.kind t.dimension
+own_seam_law t facets label tallies s x y one two is has tell seam are =
     let wide : length (facet_corners t.kind t.dimension s.facet) ≡ length (facet_corners t.kind t.dimension s.other) =
-    sym (length-map (corner_across t.kind t.dimension s) (facet_corners t.kind t.dimension s.facet)) ∙ ap (λ (l : List ℕ). length l) seam.corners in
-    let one =
-    end_law t facets s.facet s.other s.same_parity label tallies x y is has tell seam.facet seam.other_read seam.other_in_facets wide seam.places
-    are in
-    let two = end_law t facets s.other s.facet s.same_parity label tallies y x is has tell seam.other seam.read seam.in_facets (sym wide)
-    (sym seam.places) are in (
-      λ match. corresponds_kept t label s seam.corners seam.edges (one.0 match.0) (two.0 match.1),
-      λ kept. let r = kept_corresponds t label s seam.corners seam.edges kept in (one.1 r.0, two.1 r.1),
+    sym (length-map (corner_across t.kind t.dimension s) (facet_corners t.kind t.dimension s.facet)) ∙ ap (λ (l : List ℕ). length l) seam.corners in (
+      λ told.
+          forwards t label s one seam.corners seam.edges
+          (end_law t facets s.facet s.other s.same_parity label tallies x y one is has tell seam.facet seam.other_read seam.other_in_facets wide seam.places
+          are told),
+      λ told.
+          backwards t label s two seam.corners seam.edges
+          (end_law t facets s.other s.facet s.same_parity label tallies y x two is has tell seam.other seam.read seam.in_facets (sym wide)
+          (sym seam.places) are told),
     )
   where
     length-map : (f : ℕ → ℕ) (xs : List ℕ) → length (map f xs) ≡ length xs
     length-map f [] = refl
     length-map f (x ∷ xs) = let r = length-map f xs in omega arith
 
-pub seam_law : (kind : Kind) (d : ℕ) (t : Table) (facets : List Facet) (label : ℕ) (tallies : List FaceTally) (s : Seam) (x y : Facet) → IsDimension d
-    → HasDimension kind d
+pub seam_law : (kind : Kind) (d : ℕ) (t : Table) (facets : List Facet) (label : ℕ) (tallies : List FaceTally) (s : Seam) (x y : Facet)
+    (one two : Option ℕ) → IsDimension d → HasDimension kind d
     → TellTable kind d t facets → IsSeam kind d facets s x y → AreTallies d (entry_of t label) tallies
-    → (MatchesAt s.same_parity label tallies x y × MatchesAt s.same_parity label tallies y x) ↔ (keeps_seam t label s ≡ true)
-seam_law kind d t facets label tallies s x y is has tell seam are =
-    let law : SeamLaw t facets label tallies s x y kind d =
-    subst (λ k. SeamLaw t facets label tallies s x y k d) tell.kind_is
-    (subst (λ n. SeamLaw t facets label tallies s x y t.kind n) tell.dimension_is (own_seam_law t facets label tallies s x y)) in
+    → (IsAgainstAt s.same_parity label tallies x y one → TellsForwards t label s one)
+    × (IsAgainstAt s.same_parity label tallies y x two → TellsBackwards t label s two)
+seam_law kind d t facets label tallies s x y one two is has tell seam are =
+    let law : SeamLaw t facets label tallies s x y one two kind d =
+    subst (λ k. SeamLaw t facets label tallies s x y one two k d) tell.kind_is
+    (subst (λ n. SeamLaw t facets label tallies s x y one two t.kind n) tell.dimension_is (own_seam_law t facets label tallies s x y one two)) in
     law is has tell.labels seam are
 
 -- ---- a seam and its facets
@@ -332,23 +363,6 @@ seam_read kind d facets s x y is has seam facet other read_x read_y = record {
   read = read_x;
   other_read = read_y;
 }
-
--- ---- all seams
-
-pub keeps_all : (t : Table) (label : ℕ) (ss : List FacetSeam) (x : FacetSeam)
-    → ((k : ℕ) → k < length ss → keeps_seam t label (seam_of (slice_index_or ss k x)) ≡ true) → rule_seams (seams_of ss) t label ≡ true
-keeps_all t label [] x h = refl
-keeps_all t label (s ∷ ss) x h =
-    and_from (keeps_seam t label (seam_of s)) (rule_seams (seams_of ss) t label) (h 0 (omega arith))
-    (keeps_all t label ss x (λ k less. h (suc k) (omega arith)))
-
--- a label that fails at one of the seams fails the rule over them
-pub fails_one : (t : Table) (label : ℕ) (ss : List FacetSeam) (k : ℕ) (x : FacetSeam) → k < length ss
-    → keeps_seam t label (seam_of (slice_index_or ss k x)) ≡ false → rule_seams (seams_of ss) t label ≡ false
-fails_one t label [] k x less f = absurd (omega arith)
-fails_one t label (s ∷ ss) zero x less f = ap (λ b. b && rule_seams (seams_of ss) t label) f
-fails_one t label (s ∷ ss) (suc k) x less f =
-    ap (λ b. keeps_seam t label (seam_of s) && b) (fails_one t label ss k x (omega arith) f) ∙ and_right (keeps_seam t label (seam_of s)) false refl
 
 -- each seam of a list of seams of the cell is one
 pub seam_said : (kind : Kind) (d : ℕ) (ss : List FacetSeam) (k : ℕ) (x : FacetSeam) → AreSeamsOf kind d (seams_of ss) → k < length ss

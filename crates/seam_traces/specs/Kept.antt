@@ -1,5 +1,5 @@
 -- What is kept of the labels of a table, for each facet of the cell and each pattern on it.
-use Rattle.std.specs.Prelude.{◌≡◌, ◌≢◌, ⊤, ◌⊎◌, ℕ, ◌^◌, ◌<◌, ◌≤◌, Bool, List, [], map, length, All, slice_index_or}
+use Rattle.std.specs.Prelude.{◌≡◌, ◌≢◌, ◌⊎◌, ℕ, ◌^◌, ◌<◌, ◌≤◌, Bool, Option, Some, None, List, [], map, length, All, slice_index_or}
 use Rattle.iso_model.specs.declared.Kind.{Kind}
 use Rattle.iso_model.specs.Cells.{facet_count, facet_corners, facet_edges, label_count}
 use Rattle.iso_model.specs.Tables.{Table, entry_of}
@@ -41,11 +41,12 @@ abbrev pub tallies_on : Facet → List FaceTally → List FaceTally
 tallies_on facet tallies = tallies_in facet.edges.items tallies
 
 -- what is kept of a pattern before and after one more label with it, which has these tallies in the facet: the first one's are kept, and the later
--- ones' compared with them
-abbrev pub TakesTallies : List FaceTally → Seen → List FaceTally → Seen → List FaceTally → Type 0
-TakesTallies more Never kept after now = (after ≡ Alike) × (now ≡ more)
-TakesTallies more Alike kept after now = (now ≡ kept) × (((after ≡ Alike) × (kept ≡ more)) ⊎ ((after ≡ Unlike) × (kept ≢ more)))
-TakesTallies more Unlike kept after now = (after ≡ Unlike) × (now ≡ kept)
+-- ones' compared with them, until one differs
+abbrev pub TakesTallies : ℕ → List FaceTally → Seen → List FaceTally → Seen → List FaceTally → Type 0
+TakesTallies label more Never kept after now = (after ≡ Alike label) × (now ≡ more)
+TakesTallies label more (Alike first) kept after now =
+    (now ≡ kept) × (((after ≡ Alike first) × (kept ≡ more)) ⊎ ((after ≡ Unlike first label) × (kept ≢ more)))
+TakesTallies label more (Unlike first other) kept after now = (after ≡ Unlike first other) × (now ≡ kept)
 
 -- a facet takes one more label: at the label's pattern its tallies are taken, and all else stays
 pub record TakesLabel (label : ℕ) (tallies : List FaceTally) (old new : Facet) : Type 0 where
@@ -55,7 +56,7 @@ pub record TakesLabel (label : ℕ) (tallies : List FaceTally) (old new : Facet)
   pub seen : length new.seen.items ≡ length old.seen.items
   pub traces : length new.traces.items ≡ length old.traces.items
   pub here :
-      TakesTallies (tallies_on old tallies) (seen_at old (pattern_on old label)) (tallies_at old (pattern_on old label))
+      TakesTallies label (tallies_on old tallies) (seen_at old (pattern_on old label)) (tallies_at old (pattern_on old label))
       (seen_at new (pattern_on old label)) (tallies_at new (pattern_on old label))
   pub others : (p : ℕ) → p ≢ pattern_on old label → (seen_at new p ≡ seen_at old p) × (tallies_at new p ≡ tallies_at old p)
 
@@ -64,16 +65,18 @@ pub record EachTakesLabel (label : ℕ) (tallies : List FaceTally) (old new : Li
   pub count : length new ≡ length old
   pub each : (f : ℕ) (x : Facet) → f < length old → TakesLabel label tallies (slice_index_or old f x) (slice_index_or new f x)
 
--- all labels with a pattern have the trace across a seam of these tallies
-abbrev pub Matches : Bool → List FaceTally → Seen → List FaceTally → Type 0
-Matches same here Never kept = ⊤
-Matches same here Alike kept = kept ≡ tallies_across same here
-Matches same here Unlike kept = ⊥
+-- the least label with a pattern whose trace is not the one across a seam of these tallies, as what is kept tells it
+abbrev pub IsAgainst : Bool → List FaceTally → Seen → List FaceTally → Option ℕ → Type 0
+IsAgainst same here Never kept answer = answer ≡ None
+IsAgainst same here (Alike first) kept answer =
+    ((kept ≡ tallies_across same here) × (answer ≡ None)) ⊎ ((kept ≢ tallies_across same here) × (answer ≡ Some first))
+IsAgainst same here (Unlike first other) kept answer =
+    ((kept ≡ tallies_across same here) × (answer ≡ Some other)) ⊎ ((kept ≢ tallies_across same here) × (answer ≡ Some first))
 
 -- what the kept tallies of one facet say of a label by its pattern and its tallies on another
-abbrev pub MatchesAt : Bool → ℕ → List FaceTally → Facet → Facet → Type 0
-MatchesAt same label tallies here there =
-    Matches same (tallies_on here tallies) (seen_at there (pattern_on here label)) (tallies_at there (pattern_on here label))
+abbrev pub IsAgainstAt : Bool → ℕ → List FaceTally → Facet → Facet → Option ℕ → Type 0
+IsAgainstAt same label tallies here there answer =
+    IsAgainst same (tallies_on here tallies) (seen_at there (pattern_on here label)) (tallies_at there (pattern_on here label)) answer
 
 -- ---- the facets of a cell, and the labels of a table
 
@@ -90,29 +93,37 @@ pub record AreFacetsOf (kind : Kind) (d : ℕ) (facets : List Facet) : Type 0 wh
   pub count : length facets ≡ facet_count kind d
   pub each : (f : ℕ) (x : Facet) → f < facet_count kind d → IsFacetOf kind d f (slice_index_or facets f x)
 
--- the labels below n with pattern p on facet f all have the trace of which the kept tallies tell
-pub record HaveTrace (t : Table) (n f p : ℕ) (kept : List FaceTally) : Type 0 where
-  pub first : ℕ
-  pub is_label : first < n
+-- the first label with pattern p on facet f, and the kept tallies, which tell of its trace
+pub record IsFirstWith (t : Table) (f p first : ℕ) (kept : List FaceTally) : Type 0 where
   pub has_pattern : pattern t.kind t.dimension f first ≡ p
   pub tells : TellTrace t.kind t.dimension f (entry_of t first) kept
-  pub alike : (m : ℕ) → m < n → pattern t.kind t.dimension f m ≡ p → trace t.kind t.dimension f (entry_of t m) ≡ trace t.kind t.dimension f (entry_of t first)
+  pub none_before : (m : ℕ) → m < first → pattern t.kind t.dimension f m ≢ p
 
--- two of the labels below n with pattern p on facet f have different traces
-pub record HaveTwoTraces (t : Table) (n f p : ℕ) : Type 0 where
-  pub one : ℕ
-  pub other : ℕ
-  pub one_label : one < n
+-- the labels below n with pattern p on facet f all have the trace of a label
+abbrev pub HaveTraceOf : Table → ℕ → ℕ → ℕ → ℕ → Type 0
+HaveTraceOf t n f p first =
+    (m : ℕ) → m < n → pattern t.kind t.dimension f m ≡ p → trace t.kind t.dimension f (entry_of t m) ≡ trace t.kind t.dimension f (entry_of t first)
+
+-- the labels below n with pattern p on facet f all have the trace of the first of them
+pub record HaveTrace (t : Table) (n f p first : ℕ) (kept : List FaceTally) : Type 0 where
+  pub is_label : first < n
+  pub is_first : IsFirstWith t f p first kept
+  pub alike : HaveTraceOf t n f p first
+
+-- of the labels below n with pattern p on facet f, `other` is the first that has another trace than the first of them
+pub record HaveTwoTraces (t : Table) (n f p first other : ℕ) (kept : List FaceTally) : Type 0 where
+  pub is_label : first < n
+  pub is_first : IsFirstWith t f p first kept
   pub other_label : other < n
-  pub one_pattern : pattern t.kind t.dimension f one ≡ p
   pub other_pattern : pattern t.kind t.dimension f other ≡ p
-  pub differ : trace t.kind t.dimension f (entry_of t one) ≢ trace t.kind t.dimension f (entry_of t other)
+  pub differ : trace t.kind t.dimension f (entry_of t other) ≢ trace t.kind t.dimension f (entry_of t first)
+  pub alike_before : HaveTraceOf t other f p first
 
 -- what is kept of a pattern tells how the labels below n with this pattern compare
 abbrev pub TellsPattern : Table → ℕ → ℕ → ℕ → Seen → List FaceTally → Type 0
 TellsPattern t n f p Never kept = (m : ℕ) → m < n → pattern t.kind t.dimension f m ≢ p
-TellsPattern t n f p Alike kept = HaveTrace t n f p kept
-TellsPattern t n f p Unlike kept = HaveTwoTraces t n f p
+TellsPattern t n f p (Alike first) kept = HaveTrace t n f p first kept
+TellsPattern t n f p (Unlike first other) kept = HaveTwoTraces t n f p first other kept
 
 -- what is kept of each pattern on each facet tells how the labels below n of a table compare
 abbrev pub TellLabels : Table → ℕ → List Facet → Type 0

@@ -1,7 +1,7 @@
 //! A facet of a cell, and what is kept of the labels that were taken.
 
-ghost use Rattle.std.specs.Prelude.{◌≡◌, ◌↔◌, ℕ, ◌^◌, ◌<◌, ◌≤◌, length, slice_index_or, All, IfOk, OnOk, IsTrue};
-ghost use Rattle.seam_traces.specs.Kept.{seen_at, IsSound, TakesLabel, MatchesAt, IsFacetOf, AreFacetsOf, EachTakesLabel};
+ghost use Rattle.std.specs.Prelude.{◌≡◌, ℕ, ◌^◌, ◌<◌, ◌≤◌, length, slice_index_or, All, IfOk, OnOk};
+ghost use Rattle.seam_traces.specs.Kept.{seen_at, IsSound, TakesLabel, IsAgainstAt, IsFacetOf, AreFacetsOf, EachTakesLabel};
 
 use crate::places::{members_of, places_of, push};
 use crate::walks::{are_across, tallies_in};
@@ -15,10 +15,10 @@ use std::alloc::Global;
 pub enum Seen {
     /// There was no label with the pattern.
     Never,
-    /// All of them have the same trace.
-    Alike,
-    /// Two of them have different traces.
-    Unlike,
+    /// All of them have the trace of the first one.
+    Alike { first: u32 },
+    /// The first of them, and the first that has another trace.
+    Unlike { first: u32, other: u32 },
 }
 
 /// A facet: its corners and its edges in ascending order, the set of its edges, and for each pattern of signs on its
@@ -47,9 +47,9 @@ impl Facet {
         match self.seen[pattern] {
             Seen::Never => {
                 self.traces[pattern] = tallies_in(alloc, &self.edges, self.edge_set, tallies)?;
-                self.seen[pattern] = Seen::Alike;
+                self.seen[pattern] = Seen::Alike { first: label };
             }
-            Seen::Alike => {
+            Seen::Alike { first } => {
                 if !are_across(
                     &self.traces[pattern],
                     &self.edges,
@@ -57,39 +57,47 @@ impl Facet {
                     tallies,
                     false,
                 ) {
-                    self.seen[pattern] = Seen::Unlike;
+                    self.seen[pattern] = Seen::Unlike {
+                        first,
+                        other: label,
+                    };
                 }
             }
-            Seen::Unlike => {}
+            Seen::Unlike { .. } => {}
         }
         Ok(())
     }
 
-    /// Whether all labels with the pattern of a label on another facet have the trace on this facet that corresponds to
-    /// its own trace there.
-    pub(crate) fn corresponds(
+    /// The least label with the pattern of a label on another facet whose trace on this facet does not correspond to its
+    /// own trace there.
+    pub(crate) fn least_against(
         &self,
         other: &Facet,
         same: bool,
         label: u32,
         tallies: &[FaceTally],
-    ) -> bool
+    ) -> Option<u32>
         requires one { IsSound self.now }
         requires two { IsSound other.now }
         requires meet { length self.now.corners.items ≡ length other.now.corners.items }
-        ensures { IsTrue result ↔ MatchesAt same label tallies.now other.now self.now }
+        ensures { IsAgainstAt same label tallies.now other.now self.now result }
     {
         let pattern = places_of(&other.corners, label) as usize;
-        match self.seen[pattern] {
-            Seen::Never => true,
-            Seen::Alike => are_across(
-                &self.traces[pattern],
-                &other.edges,
-                other.edge_set,
-                tallies,
-                same,
-            ),
-            Seen::Unlike => false,
+        let (first, next) = match self.seen[pattern] {
+            Seen::Never => return None,
+            Seen::Alike { first } => (first, None),
+            Seen::Unlike { first, other } => (first, Some(other)),
+        };
+        if are_across(
+            &self.traces[pattern],
+            &other.edges,
+            other.edge_set,
+            tallies,
+            same,
+        ) {
+            next
+        } else {
+            Some(first)
         }
     }
 }

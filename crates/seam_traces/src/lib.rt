@@ -6,11 +6,12 @@
 //! counts and sums of the sets of edges in the facet. Both are written by places among the corners and the edges of the
 //! facet, in ascending order; a seam keeps these orders, so the pattern and the trace on its other side are known.
 //!
-//! For each facet and pattern the trace of the first label with it is kept, and whether all labels with it have this
+//! For each facet and pattern the first label with it is kept, its trace, and the first label with it that has another
 //! trace. A label keeps the rule at an end of a seam exactly where all traces of its pattern at the other end are alike
-//! and the kept one corresponds to its own.
+//! and the kept one corresponds to its own; else one of these two labels is the least that it clashes with.
 #![tactic(auto)]
 
+mod clashes;
 mod facets;
 mod places;
 mod seams;
@@ -19,5 +20,6 @@ mod table_traces;
 mod tests;
 mod walks;
 
+pub use clashes::Clash;
 pub use seams::{FacetSeam, cell_seams};
 pub use table_traces::Traces;

@@ -2,10 +2,11 @@
 
 ghost use Rattle.std.specs.Prelude.{◌≡◌, ◌<◌, slice_index_or, IfOk};
 ghost use Rattle.iso_model.specs.Acceptance.{rule_seams};
-ghost use Rattle.seam_traces.specs.Traces.{keeps_seam};
+ghost use Rattle.seam_traces.specs.Clashes.{TellsClash, TellsClashAt};
 ghost use Rattle.seam_traces.specs.SeamLists.{seam_of, seams_of, IsSeamOf, AreSeamsOf};
 ghost use Rattle.seam_traces.specs.Kept.{TellTable, InTables, IsSound, IsFacetOf};
 
+use crate::clashes::Clash;
 use crate::facets::{Facet, add_label, facets_of};
 use crate::seams::FacetSeam;
 use cell_lattice::Cell;
@@ -60,23 +61,50 @@ impl<C: Cell<D>, const D: usize> Traces<C, D> {
         requires { AreSeamsOf C.KIND D (seams_of seams.now) }
         ensures { InTables C.KIND D self.now label tallies.now (λ t. result ≡ rule_seams (seams_of seams.now) t label) }
     {
-        for seam in seams {
-            if !self.keeps_seam(*seam, label, tallies) {
-                return false;
-            }
-        }
-        true
+        self.first_clash(seams, label, tallies).is_none()
     }
 
-    /// Whether a label keeps the rule at one seam.
-    fn keeps_seam(&self, seam: FacetSeam, label: u32, tallies: &[FaceTally]) -> bool
+    /// The first clash of a label over these seams in the table of which these are the traces, and none where it keeps the
+    /// rule over them. `tallies` are those of the label's tuples.
+    pub fn first_clash(
+        &self,
+        seams: &[FacetSeam],
+        label: u32,
+        tallies: &[FaceTally],
+    ) -> Option<Clash>
+        requires { AreSeamsOf C.KIND D (seams_of seams.now) }
+        ensures { InTables C.KIND D self.now label tallies.now (λ t. TellsClash (seams_of seams.now) t label result) }
+    {
+        for seam in seams {
+            if let Some(clash) = self.clash_at(*seam, label, tallies) {
+                return Some(clash);
+            }
+        }
+        None
+    }
+
+    /// The clash of a label at one seam, read in the first direction in which it has one.
+    fn clash_at(&self, seam: FacetSeam, label: u32, tallies: &[FaceTally]) -> Option<Clash>
         requires { IsSeamOf C.KIND D (seam_of seam) }
-        ensures { InTables C.KIND D self.now label tallies.now (λ t. result ≡ keeps_seam t label (seam_of seam)) }
+        ensures { InTables C.KIND D self.now label tallies.now (λ t. TellsClashAt t label (seam_of seam) result) }
     {
         let facet = self.facet(seam.facet);
         let other = self.facet(seam.other);
-        other.corresponds(facet, seam.same, label, tallies)
-            && facet.corresponds(other, seam.same, label, tallies)
+        if let Some(against) = other.least_against(facet, seam.same, label, tallies) {
+            return Some(Clash {
+                facet: seam.facet,
+                other: against,
+                other_facet: seam.other,
+            });
+        }
+        match facet.least_against(other, seam.same, label, tallies) {
+            Some(against) => Some(Clash {
+                facet: seam.other,
+                other: against,
+                other_facet: seam.facet,
+            }),
+            None => None,
+        }
     }
 
     /// A facet of the cell.

@@ -72,8 +72,9 @@ pub(crate) fn judge<C: Cell<D>, const D: usize>(
     Ok(Verdict::Accepted)
 }
 
-/// The least rule that a label fails, by the tallies of its tuples.
-fn first_failed<C: Cell<D>, const D: usize>(
+/// The least rule, from 1 to 6, that a label fails, and none where it keeps each. `seams` are those over which the rule
+/// of seams is asked, `traces` those of the table, and `tallies` those of the label's tuples.
+pub fn first_failed<C: Cell<D>, const D: usize>(
     figures: &Figures<D>,
     traces: &Traces<C, D>,
     seams: &[FacetSeam],

@@ -14,7 +14,7 @@ mod tests;
 mod verdicts;
 
 pub use certified::{CertifyFault, Checked, certify};
-pub use labels::check;
+pub use labels::{check, first_failed};
 pub use laws::empty_ends_law;
 pub use ordered::{OrderedChecked, certify_ordered, check_ordered};
 pub use parts::{certify_parts, check_parts};

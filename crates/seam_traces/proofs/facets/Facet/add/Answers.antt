@@ -23,7 +23,7 @@ returns-then-not-are_across c =
     let is : p ≡ pattern_on old c.args.label = c.places_of-pattern.ensures.places ∙ ap (λ (l : List ℕ). places l c.args.label) c.deref.ensures.value in
     let in_traces : p < length old.traces.items = let w = c.requires.traces in omega arith in
     let kept = kept_at old p c.index-in-Alike.result.now in_traces c.index-in-Alike.ensures ∙ sym c.deref-in-Alike.ensures.value in
-    takes_other c.args.label c.args.tallies.now old p c.index.result.now c.requires less is c.index.ensures c.in-Alike.is
+    takes_other c.args.label c.args.tallies.now old p c.in-Alike.first c.index.result.now c.requires less is c.index.ensures c.in-Alike.is
     (λ e.
     false≢true
     (sym c.if-not-are_across.true
@@ -39,6 +39,6 @@ returns-else-not-are_across c =
     let is : p ≡ pattern_on old c.args.label = c.places_of-pattern.ensures.places ∙ ap (λ (l : List ℕ). places l c.args.label) c.deref.ensures.value in
     let in_traces : p < length old.traces.items = let w = c.requires.traces in omega arith in
     let kept = kept_at old p c.index-in-Alike.result.now in_traces c.index-in-Alike.ensures ∙ sym c.deref-in-Alike.ensures.value in
-    takes_same c.args.label c.args.tallies.now old p c.index.result.now c.requires less is c.index.ensures c.in-Alike.is
+    takes_same c.args.label c.args.tallies.now old p c.in-Alike.first c.index.result.now c.requires less is c.index.ensures c.in-Alike.is
     (kept ∙ c.are_across.ensures.0 c.if-not-are_across.false ∙ across_same (tallies_in c.deref-in-Alike-2.result.now c.args.tallies.now)
     ∙ ap (λ (l : List ℕ). tallies_in l c.args.tallies.now) c.deref-in-Alike-2.ensures.value)
