@@ -1,6 +1,6 @@
 //! The walk round a vertex of a mesh of triangles.
 
-ghost use Rattle.std.specs.Prelude.{◌≡◌, ◌^◌, ◌<◌, ◌++◌, length, IfOk, OnOk};
+ghost use Rattle.std.specs.Prelude.{◌≡◌, ◌^◌, ◌<◌, ◌++◌, ℕ, [], length, IfOk, OnOk};
 ghost use Rattle.iso_model.specs.Walks.{turned, walk};
 ghost use Rattle.mesh_laws.specs.Rounds.{AreCornersAt, corner_of};
 
@@ -30,7 +30,9 @@ impl Model for Trail {
 
 impl Trail {
     /// The walk where there are no triangles: it meets none, and is whole.
-    pub fn new(alloc: Global) -> Trail {
+    pub fn new(alloc: Global) -> Trail
+        ensures { (vertex : ℕ) → result ≡ walk [] vertex }
+    {
         Trail {
             order: Vec::new(alloc),
             closed: false,
