@@ -355,7 +355,8 @@ module _ (kind : Kind) (way : List ℕ) (is : IsWay kind way) where
   last_from [] each h d = absurd (cc)
   last_from (p ∷ rest) each h d =
       let last = slice_index_or (p ∷ rest) (length (p ∷ rest) - 1) p in
-      let at_end : In last (p ∷ rest) = In_from (p ∷ rest) last (Contains-at (p ∷ rest) (length (p ∷ rest) - 1) p (omega arith)) in
+      let at_end : In last (p ∷ rest) =
+      In_from (p ∷ rest) last (Contains-at (p ∷ rest) (length (p ∷ rest) - 1) p (omega arith)) in
       subst (λ (x : Place). IsNextTo kind way x p) (any_default (p ∷ rest) (length (p ∷ rest) - 1) p d (omega arith))
       (next_from kind way last p (each last at_end) (each p (inl refl)) h)
 
