@@ -8,6 +8,7 @@ use std::test::Fail;
 use worked_tables::{SQUARE, SQUARE2, TETRAHEDRON, TRIANGLE};
 
 mod converted;
+mod decided;
 mod generated;
 
 const HEADER: &str = "NRRD0001\ntype: uint8\ndimension: 2\nsizes: 2 2\nencoding: raw\n\n";
@@ -29,6 +30,9 @@ space origin: (0,0,0)\r
 operator:=first trial\r
 \r
 ";
+
+// The samples of a square with one positive corner.
+const SAMPLES: [u8; 4] = [10, 0, 0, 0];
 
 const WORDS: &str = "extract table=table.tab grid=grid.nrrd iso=5";
 
@@ -130,30 +134,61 @@ fn file(alloc: Global, name: &str, pieces: &[&[u8]]) -> Result<MemFile, AllocErr
 }
 
 fn shelf_of(alloc: Global, case: &Case) -> Result<MemShelf, AllocError> {
+    failing_shelf(alloc, case, case.shelf_step, case.shelf_fails)
+}
+
+// The shelf of a case, of which a call gives so many bytes at most, and these calls are to fail.
+fn failing_shelf(
+    alloc: Global,
+    case: &Case,
+    step: usize,
+    fails: &[u64],
+) -> Result<MemShelf, AllocError> {
     let mut files = Vec::new(alloc);
     files.push(file(alloc, "table.tab", &case.table)?)?;
     files.push(file(alloc, "grid.nrrd", &[case.header.as_bytes(), case.samples])?)?;
-    let fails = Vec::from_slice(alloc, case.shelf_fails)?;
-    Ok(MemShelf::new(files, fails, case.shelf_step.max(1)))
+    let fails = Vec::from_slice(alloc, fails)?;
+    Ok(MemShelf::new(files, fails, step.max(1)))
 }
 
 // Runs the case, and compares the status and what was put.
 fn check(rt: &impl Abort, alloc: Global, number: usize, case: &Case) -> Result<(), Fail> {
-    let words = words_of(alloc, case.words)?;
     let mut shelf = shelf_of(alloc, case)?;
+    check_over(rt, alloc, number, case, &mut shelf, case.status, case.line)
+}
+
+// The same over a shelf, with a status and a line of its own.
+fn check_over(
+    rt: &impl Abort,
+    alloc: Global,
+    number: usize,
+    case: &Case,
+    shelf: &mut MemShelf,
+    status: Status,
+    line: &str,
+) -> Result<(), Fail> {
+    let words = words_of(alloc, case.words)?;
     let fails = Vec::from_slice(alloc, case.out_fails)?;
     let mut out = MemSink::new(alloc, 2000, fails, case.out_step.max(1))?;
     let mut err = MemSink::new(alloc, 1000, Vec::new(alloc), 10)?;
-    let status = run(alloc, words.as_slice(), &mut shelf, &mut out, &mut err);
-    assert_eq!(rt; status, case.status, "case {number}");
+    let answer = run(alloc, words.as_slice(), shelf, &mut out, &mut err);
+    assert_eq!(rt; answer, status, "case {number}");
     assert_eq!(rt; out.bytes(), case.out.as_bytes(), "case {number}");
-    assert_eq!(rt; err.bytes(), case.line.as_bytes(), "case {number}");
+    assert_eq!(rt; err.bytes(), line.as_bytes(), "case {number}");
     Ok(())
 }
 
-#[test]
-fn meshes_are_placed(rt: HostRuntime) -> Result<(), Fail> {
-    let cases = [
+// Checks each of the cases.
+fn check_all(rt: &impl Abort, alloc: Global, cases: &[Case]) -> Result<(), Fail> {
+    for (number, case) in cases.iter().enumerate() {
+        check(rt, alloc, number, case)?;
+    }
+    Ok(())
+}
+
+// Grids, and the meshes that are put of them.
+fn square_meshes() -> [Case<'static>; 6] {
+    [
         extracts(HEADER, &[10, 0, 0, 0], FIRST),
         extracts(
             "NRRD0001\ntype: int8\ndimension: 2\nsizes: 2 2\nencoding: raw\n\n",
@@ -179,6 +214,12 @@ fn meshes_are_placed(rt: HostRuntime) -> Result<(), Fail> {
             &[0, 9, 0, 9, 0, 9, 0],
             "nOFF\n2\n0 0 0\n",
         ),
+    ]
+}
+
+// The same by tables of simplices, at other isovalues, and of shorts.
+fn other_meshes() -> [Case<'static>; 5] {
+    [
         Case {
             table: [&TRIANGLE, &[], &[]],
             ..extracts(
@@ -217,60 +258,67 @@ fn meshes_are_placed(rt: HostRuntime) -> Result<(), Fail> {
                 "nOFF\n2\n2 1 0\n0.400000 0.000000\n0.400000 1.000000\n2 1 0\n",
             )
         },
-    ];
-    for (number, case) in cases.iter().enumerate() {
-        check(&rt, rt.alloc(), number, case)?;
-    }
-    Ok(())
+    ]
 }
 
 #[test]
-fn refusals_put_their_line(rt: HostRuntime) -> Result<(), Fail> {
-    let samples = [10, 0, 0, 0];
-    let cases = [
-        refuses("", HEADER, &samples, Status::Usage(1), "usage: word 1\n"),
+fn meshes_are_placed(rt: HostRuntime) -> Result<(), Fail> {
+    check_all(&rt, rt.alloc(), &square_meshes())?;
+    check_all(&rt, rt.alloc(), &other_meshes())
+}
+
+// Words that are refused, or that name no right table.
+fn refused_words() -> [Case<'static>; 6] {
+    [
+        refuses("", HEADER, &SAMPLES, Status::Usage(1), "usage: word 1\n"),
         refuses(
             "extract table=a grid=b iso=05",
             HEADER,
-            &samples,
+            &SAMPLES,
             Status::Usage(4),
             "usage: word 4\n",
         ),
         refuses(
             "extract table=a grid=b",
             HEADER,
-            &samples,
+            &SAMPLES,
             Status::Usage(4),
             "usage: word 4\n",
         ),
         refuses(
             "extract table=a grid=b iso=1099511627777",
             HEADER,
-            &samples,
+            &SAMPLES,
             Status::Usage(4),
             "usage: word 4\n",
         ),
         refuses(
             "extract table=table.tab grid=b iso=5",
             HEADER,
-            &samples,
+            &SAMPLES,
             Status::ShelfFault(1),
             "shelf fault: 1\n",
         ),
         refuses(
             "extract table=grid.nrrd grid=b iso=5",
             HEADER,
-            &samples,
+            &SAMPLES,
             Status::TableForm(TableForm::Fault {
                 place: 0,
                 cause: TableCause::Magic,
             }),
             "table form: magic 0\n",
         ),
+    ]
+}
+
+// Files that are refused.
+fn refused_files() -> [Case<'static>; 5] {
+    [
         refuses(
             WORDS,
             "NRRD0001\ntype: uint8\ndimension: 2\nsizes: 2 2\nencoding: gzip\n\n",
-            &samples,
+            &SAMPLES,
             Status::GridForm(GridCause::Encoding(5)),
             "grid form: encoding 5\n",
         ),
@@ -300,11 +348,17 @@ fn refusals_put_their_line(rt: HostRuntime) -> Result<(), Fail> {
             ..refuses(
                 WORDS,
                 HEADER,
-                &samples,
+                &SAMPLES,
                 Status::Unfit { table: 3, grid: 2 },
                 "unfit: table 3 grid 2\n",
             )
         },
+    ]
+}
+
+// Refusals by what a table or a grid says, and the one output that can't be written.
+fn refused_contents() -> [Case<'static>; 3] {
+    [
         // a table that is not accepted is refused whatever the grid
         Case {
             table: [&SQUARE[..24], &[1, 0], &SQUARE[26..]],
@@ -330,16 +384,19 @@ fn refusals_put_their_line(rt: HostRuntime) -> Result<(), Fail> {
             ..refuses(
                 WORDS,
                 HEADER,
-                &samples,
+                &SAMPLES,
                 Status::WriteFault(1),
                 "write fault: 1\n",
             )
         },
-    ];
-    for (number, case) in cases.iter().enumerate() {
-        check(&rt, rt.alloc(), number, case)?;
-    }
-    Ok(())
+    ]
+}
+
+#[test]
+fn refusals_put_their_line(rt: HostRuntime) -> Result<(), Fail> {
+    check_all(&rt, rt.alloc(), &refused_words())?;
+    check_all(&rt, rt.alloc(), &refused_files())?;
+    check_all(&rt, rt.alloc(), &refused_contents())
 }
 
 // The calls of the shelf: to begin each file, and to take its bytes, of which the header's come one at a time, up to
@@ -412,9 +469,9 @@ const fn accepts<'a>(table: [&'a [u8]; 3]) -> Case<'a> {
     }
 }
 
-#[test]
-fn tables_are_accepted_or_refused(rt: HostRuntime) -> Result<(), Fail> {
-    let cases = [
+// Tables that are checked.
+fn judged_tables() -> [Case<'static>; 9] {
+    [
         accepts([&SQUARE, &[], &[]]),
         accepts([&SQUARE2, &[], &[]]),
         // the ambiguous square joined the other way
@@ -458,9 +515,10 @@ fn tables_are_accepted_or_refused(rt: HostRuntime) -> Result<(), Fail> {
             line: "write fault: 1\n",
             ..accepts([&SQUARE, &[], &[]])
         },
-    ];
-    for (number, case) in cases.iter().enumerate() {
-        check(&rt, rt.alloc(), number, case)?;
-    }
-    Ok(())
+    ]
+}
+
+#[test]
+fn tables_are_accepted_or_refused(rt: HostRuntime) -> Result<(), Fail> {
+    check_all(&rt, rt.alloc(), &judged_tables())
 }
