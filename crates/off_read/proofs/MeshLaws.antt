@@ -1,16 +1,14 @@
 -- Numbers and indices of a mesh file.
-use Rattle.std.specs.Prelude.{◌≡◌, ℕ, ◌+◌, ◌-◌, ◌<◌, ◌≤◌, zero, suc, Bool, true, false, ◌&&◌, ◌==◌, nat_lt, List, [], ◌∷◌, ◌++◌, length, All, slice_index_or, Option, Some, None, if◌then◌else◌}
-use Rattle.std.proofs.Common.{refl, ap, sym, ◌∙◌, arith, subst}
+use Rattle.std.specs.Prelude.{◌≡◌, ℕ, ◌+◌, ◌-◌, ◌<◌, zero, suc, Bool, true, false, ◌==◌, List, [], ◌∷◌, ◌++◌, length, All, slice_index_or, Option, Some, None, if◌then◌else◌}
+use Rattle.std.proofs.Common.{refl, ap, ◌∙◌, arith}
 use Rattle.std.proofs.lemmas.Bool.{and_parts}
 use Rattle.lists.proofs.Tests.{lt_of, of_equal}
 use Rattle.iso_formats.proofs.MeshFileLaws.{unequal}
 use Rattle.iso_formats.specs.HeaderLines.{is_numeral, numeral_value}
-use Rattle.iso_formats.specs.MeshFile.{Word, Body, Stage, MeshFault, stopped, next_stage, at_index, with_index, is_count, is_index, wrong_count, wrong_index}
+use Rattle.iso_formats.specs.MeshFile.{Word, Body, Stage, stopped, next_stage, at_index, with_index, is_count, is_index, wrong_count, wrong_index}
 use Rattle.iso_formats.specs.MeshFile.{at_vertices, at_faces, at_edges, before_coordinates, at_coordinate, at_face, is_size, is_whole, wrong_size, ends_at, is_coordinate, wrong_coordinate}
-use Rattle.off_read.specs.declared.faults.OffFault.{OffFault}
-use Rattle.off_read.specs.declared.faults.OffFault.TheVariants.{Count, Index}
 use Rattle.off_read.specs.ScanForms.{Scan}
-use Rattle.off_read.specs.Scans.{GivesWord, Goes, Refuses, FailsAt, lines_passed, reading, reading_from, mark, passed, without_line}
+use Rattle.off_read.specs.Scans.{GivesWord, Goes, Refuses, lines_passed, reading, reading_from, mark, passed, without_line}
 use Rattle.off_read.specs.Meshes.{AsksCount, IsUnended, at_next_face, body_with}
 use Rattle.off_read.specs.WordForms.{Known}
 use Rattle.off_read.specs.declared.reader.Place.{Place}

@@ -1,7 +1,7 @@
 -- What the parts of a reading say of the whole file.
-use Rattle.std.specs.Prelude.{◌≡◌, ℕ, ◌+◌, ◌≤◌, Bool, true, false, List, [], ◌∷◌, ◌++◌, length, Option, Some, None, IfSome, is_some, ⊤}
+use Rattle.std.specs.Prelude.{◌≡◌, ℕ, ◌+◌, ◌≤◌, true, false, List, [], ◌++◌, length, Option, Some, None, IfSome, is_some, ⊤}
 use Rattle.std.specs.Io.KnownBytes.{Consumes, IsAtEnd}
-use Rattle.std.proofs.Common.{refl, ap, sym, ◌∙◌, arith, subst}
+use Rattle.std.proofs.Common.{ap, sym, ◌∙◌, arith, subst}
 use Rattle.std.proofs.lemmas.List.{append-nil}
 use Rattle.iso_formats.specs.MeshFile.{MeshFault, MeshReading, SpellsMesh, at_first, lines_of, words_from, stage_behind, ends_at, read_mesh, mesh_read, mesh_refused}
 use Rattle.iso_formats.proofs.MeshFileRead.{read_is_spelled}
@@ -11,13 +11,14 @@ use Rattle.off_read.specs.AnyOffs as off
 use Rattle.off_read.specs.Faults.{word_cause}
 use Rattle.off_read.specs.Meshes.{EndsAs}
 use Rattle.off_read.specs.ScanForms.{Scan, limit}
-use Rattle.off_read.specs.Scans.{Told, Takes, TakesFew, TakesMany, Drains, Fails, FailsAt, Refuses, new_scan, reading, reading_from}
+use Rattle.off_read.specs.Scans.{Told, TakesFew, TakesMany, Drains, Fails, FailsAt, Refuses, new_scan, reading, reading_from}
 use Rattle.off_read.proofs.TakingLaws.{takes_then, takes_few, told_then}
 
 start_reads : (bytes : List ℕ) → reading new_scan at_first bytes ≡ read_mesh bytes
 unfolding reading_from
 start_reads bytes =
-    ap (λ (n : ℕ). ends_at n (stage_behind at_first (words_from 1 (lines_of bytes)))) (let e : 0 + length (lines_of bytes) ≡ length (lines_of bytes) = omega arith in e)
+    ap (λ (n : ℕ). ends_at n (stage_behind at_first (words_from 1 (lines_of bytes))))
+    (let e : 0 + length (lines_of bytes) ≡ length (lines_of bytes) = omega arith in e)
 
 -- bytes that came since the start
 came_few : (a c : Option (List ℕ)) (t : Scan) → TakesFew a c new_scan t → off.Takes (λ n. n ≤ limit) a c

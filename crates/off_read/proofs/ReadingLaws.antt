@@ -1,14 +1,13 @@
 -- What is still to be read of a file, byte by byte.
-use Rattle.std.specs.Prelude.{◌≡◌, ℕ, suc, ◌+◌, ◌<◌, Bool, true, false, not, ◌&&◌, ◌==◌, nat_eq, List, [], ◌∷◌, ◌++◌, map, length, Option, Some, None, if◌then◌else◌}
+use Rattle.std.specs.Prelude.{◌≡◌, ℕ, suc, ◌+◌, ◌<◌, Bool, true, false, not, ◌==◌, List, [], ◌∷◌, ◌++◌, map, length, Some, None, if◌then◌else◌}
 use Rattle.std.specs.List.{list_all, onto_first}
-use Rattle.std.proofs.Common.{refl, ap, sym, ◌∙◌, arith, subst}
+use Rattle.std.proofs.Common.{refl, ap, sym, ◌∙◌, arith}
 use Rattle.std.proofs.lemmas.Bool.{and_parts, not-true}
-use Rattle.std.proofs.lemmas.List.{append-nil, append_assoc}
+use Rattle.std.proofs.lemmas.List.{append-nil}
 use Rattle.lists.proofs.Tests.{equal_of, of_equal}
 use Rattle.iso_formats.specs.MeshFile.{Body, at_face, at_index, stopped, extra_word, wrong_size, is_whole, is_size}
-use Rattle.iso_formats.specs.MeshFile.{Word, Stage, MeshReading, lines_of, words_on, words_from, is_gap, next_stage, stage_behind, ends_at}
-use Rattle.off_read.specs.Scans.{reading_from, is_word_byte}
-use Rattle.off_read.proofs.LineWords.{no_feed, words-gap, words-hash, words-word, words-comment, words-end}
+use Rattle.iso_formats.specs.MeshFile.{Word, Stage, MeshReading, lines_of, words_on, words_from, next_stage, stage_behind, ends_at}
+use Rattle.off_read.specs.Scans.{reading_from}
 
 -- no line ends within the bytes
 pub is_unbroken : List ℕ → Bool

@@ -1,5 +1,5 @@
 -- What one byte does to what is still to be read of a file.
-use Rattle.std.specs.Prelude.{◌≡◌, ℕ, ◌+◌, ◌<◌, Bool, true, false, not, ◌&&◌, ◌==◌, nat_eq, List, [], ◌∷◌, ◌++◌, length}
+use Rattle.std.specs.Prelude.{◌≡◌, ℕ, ◌+◌, ◌<◌, Bool, true, false, not, ◌==◌, nat_eq, List, [], ◌∷◌, ◌++◌, length}
 use Rattle.std.specs.List.{list_all}
 use Rattle.std.proofs.Common.{refl, ap, sym, ◌∙◌, arith, subst}
 use Rattle.std.proofs.lemmas.Bool.{and_parts, not-true}
@@ -7,7 +7,7 @@ use Rattle.std.proofs.lemmas.List.{append_assoc, append-nil}
 use Rattle.std.proofs.lemmas.List.Folds.{list_all-append}
 use Rattle.lists.proofs.Tests.{test_differ, nat_eq-sym}
 use Rattle.iso_formats.specs.HeaderLines.{is_empty}
-use Rattle.iso_formats.specs.MeshFile.{Stage, MeshReading, is_gap, next_stage, words_on, ends_at}
+use Rattle.iso_formats.specs.MeshFile.{Stage, is_gap, next_stage, words_on, ends_at}
 use Rattle.off_read.specs.declared.reader.Place.{Place}
 use Rattle.off_read.specs.declared.reader.Place.TheVariants.{LineStart, OnLine, Passing}
 use Rattle.off_read.specs.ScanForms.{Scan}
@@ -150,7 +150,8 @@ sees_hash old new word (x ∷ w) so i e q p = subst (λ (b : Bool). Sees old new
 )
 
 pub sees_gap : (old new : Scan) (word : Known) (text : List ℕ) (c : ℕ) → IsSoFar word text → IsInWord old text → new.ended ≡ old.ended
-    → (old.place ≡ Passing → ⊥) → new.place ≡ OnLine → is_gap c ≡ true → nat_eq 35 c ≡ false → (c == 10) ≡ false → Sees old new word text c (not (is_empty text))
+    → (old.place ≡ Passing → ⊥) → new.place ≡ OnLine → is_gap c ≡ true → nat_eq 35 c ≡ false → (c == 10) ≡ false
+    → Sees old new word text c (not (is_empty text))
 sees_gap old new word [] c so i e q p g h k = (
   [],
   so,

@@ -1,14 +1,14 @@
 -- Calls of a reader, one after another.
-use Rattle.std.specs.Prelude.{◌≡◌, ℕ, suc, ◌+◌, ◌-◌, ◌<◌, ◌≤◌, Bool, true, false, List, [], ◌∷◌, ◌++◌, length, take, drop, slice_index, Option, Some, None}
+use Rattle.std.specs.Prelude.{◌≡◌, ℕ, suc, ◌+◌, ◌-◌, ◌<◌, ◌≤◌, true, false, List, [], ◌∷◌, ◌++◌, length, take, drop, slice_index, Option, Some, None}
 use Rattle.std.specs.Io.KnownBytes.{Consumes, IsAtEnd}
 use Rattle.std.proofs.Common.{refl, ap, sym, ◌∙◌, arith, subst}
-use Rattle.std.proofs.lemmas.List.{append_assoc, append-nil, length-append}
+use Rattle.std.proofs.lemmas.List.{append_assoc, length-append}
 use Rattle.std.proofs.Math.Seq.{drop-cons}
-use Rattle.iso_formats.specs.MeshFile.{Stage, MeshReading, next_stage, ends_at}
+use Rattle.iso_formats.specs.MeshFile.{Stage, next_stage}
 use Rattle.off_read.specs.declared.faults.OffFault.{OffFault}
 use Rattle.off_read.specs.declared.faults.OffFault.TheVariants.{Long, Header, Count, Coordinate, FaceSize, Index, Extra, Short, Shelf, Memory}
 use Rattle.off_read.specs.ScanForms.{Scan, limit}
-use Rattle.off_read.specs.Scans.{Told, Takes, TakesFew, TakesMany, Refills, FindsNone, GivesByte, GivesNext, GivesWord, FindsEnd, ReadsOn, Sees, IsInWord, Fails, budget}
+use Rattle.off_read.specs.Scans.{Told, Takes, TakesFew, Refills, FindsNone, GivesByte, GivesNext, GivesWord, FindsEnd, ReadsOn, Sees, IsInWord, Fails, budget}
 use Rattle.off_read.specs.Scans.{reading, reading_in, lines_passed, IsSameLine}
 use Rattle.off_read.specs.WordForms.{IsSoFar, Known}
 use Rattle.off_read.proofs.SeeLaws.{moved, no_more, word_last}

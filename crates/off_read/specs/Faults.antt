@@ -1,9 +1,9 @@
 -- The faults of reading a mesh as causes of the definition.
-use Rattle.std.specs.Prelude.{ℕ, List, Option, Some, None, Result, IfErr}
+use Rattle.std.specs.Prelude.{ℕ, Option, Some, None, Result, IfErr}
 use Rattle.iso_base.specs.Shelves.{IsFairBlame}
 use Rattle.iso_formats.specs.MeshFile.{MeshFault, wrong_header, wrong_count, wrong_coordinate, wrong_size, wrong_index, extra_word, short_of_words}
 use Rattle.off_read.specs.declared.faults.OffFault.{OffFault}
-use Rattle.off_read.specs.declared.faults.OffFault.TheVariants.{Long, Header, Count, Coordinate, FaceSize, Index, Extra, Short, Shelf, Memory}
+use Rattle.off_read.specs.declared.faults.OffFault.TheVariants.{Header, Count, Coordinate, FaceSize, Index, Extra, Short, Shelf}
 
 -- the cause that a fault names: that of a word that does not fit
 abbrev pub word_cause : OffFault → Option MeshFault

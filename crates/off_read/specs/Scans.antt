@@ -3,13 +3,12 @@ use Rattle.std.specs.Prelude.{◌≡◌, ℕ, ◌+◌, ◌-◌, ◌<◌, ◌≤�
 use Rattle.std.specs.List.{list_all}
 use Rattle.std.specs.Prelude.{Option, Some, None, ⊤}
 use Rattle.std.specs.Io.KnownBytes.{Consumes, IsAtEnd}
-use Rattle.iso_formats.specs.MeshFile.{Word, Stage, MeshReading, MeshFault, lines_of, words_from, is_gap, next_stage, stage_behind, ends_at, mesh_refused}
+use Rattle.iso_formats.specs.MeshFile.{Stage, MeshReading, MeshFault, lines_of, words_from, is_gap, next_stage, stage_behind, ends_at, mesh_refused}
 use Rattle.iso_formats.specs.MeshFile.{wrong_header, wrong_count, wrong_coordinate, wrong_size, wrong_index, extra_word, short_of_words}
 use Rattle.off_read.specs.declared.faults.OffFault.{OffFault}
 use Rattle.off_read.specs.declared.faults.OffFault.TheVariants as Fault
 use Rattle.off_read.specs.declared.reader.Place.{Place}
 use Rattle.off_read.specs.declared.reader.Place.TheVariants.{LineStart, OnLine, Passing}
-use Rattle.off_read.specs.Faults.{word_cause}
 use Rattle.off_read.specs.ScanForms.{Scan, limit}
 use Rattle.off_read.specs.WordForms.{IsSoFar, Known}
 
@@ -156,6 +155,10 @@ pub record ReadsOn (old_rest new_rest : Option (List ℕ)) (old new : Scan) (wor
   pub spends : budget new ≤ budget old
   pub spends_more : 0 < length text → budget new < budget old
   pub reads : Told old_rest new_rest (λ a b. (stage : Stage) → reading old stage a ≡ reading_in new text stage (new.left ++ b))
+
+-- a byte is seen, whatever the text of the word that has begun
+abbrev pub IsSeen : Scan → Scan → Known → Known → ℕ → Bool → Type 0
+IsSeen old new before after byte ends = (text : List ℕ) → IsSoFar before text → IsInWord old text → Sees old new after text byte ends
 
 -- a word is given: it is the next one of the file
 pub record GivesWord (old_rest new_rest : Option (List ℕ)) (old new : Scan) (word : Known) : Type 0 where

@@ -5,6 +5,7 @@ use Rattle.std.specs.Char.{is_ascii_digit}
 use Rattle.std.specs.Str.{all_ascii_digits}
 use Rattle.lists.specs.Orders.{has}
 use Rattle.iso_formats.specs.HeaderLines.{is_numeral, numeral_value}
+use Rattle.iso_formats.specs.MeshFile.{is_count, is_index}
 
 -- a word: its line; its first bytes; the number that its digits write; whether its bytes are all digits, whether one is, and whether all may stand in a
 -- coordinate
@@ -33,3 +34,11 @@ capped_numeral text = if is_numeral text then Some (min (2 ^ 32) (numeral_value 
 abbrev pub below : ℕ → Option ℕ → Option ℕ
 below bound (Some n) = if nat_lt n bound then Some n else None
 below bound None = None
+
+-- the number of vertices or faces that a text writes, where it does
+abbrev pub count_of : List ℕ → Option ℕ
+count_of text = if is_count text then Some (numeral_value text) else None
+
+-- the vertex, of so many, that a text writes, where it does
+abbrev pub index_of : ℕ → List ℕ → Option ℕ
+index_of vertices text = if is_index vertices text then Some (numeral_value text) else None

@@ -9,6 +9,8 @@
 mod faults;
 mod meshes;
 mod reader;
+#[cfg(test)]
+mod tests;
 mod words;
 
 pub use faults::OffFault;

@@ -2,10 +2,11 @@
 
 ghost use Rattle.std.specs.Prelude.{◌≡◌, ℕ, ◌+◌, ◌*◌, ◌^◌, ◌<◌, ◌≤◌, ◌++◌, ◌∷◌, [], true, List, length, All, OnOk, IfOk, IfErr, IsNone, IfSome, is_some, None};
 ghost use Rattle.iso_base.specs.Shelves.{IsSameShelf};
-ghost use Rattle.iso_formats.specs.MeshFile.{Body, Stage, at_first, at_vertices, at_edges, at_face, at_index, before_coordinates};
-ghost use Rattle.iso_formats.specs.MeshFile.{empty_body, with_index, is_whole};
+ghost use Rattle.iso_formats.specs.MeshFile.{at_first, at_vertices};
 ghost use Rattle.off_read.specs.Faults.{BlamesFairly, blame_of, word_cause};
-ghost use Rattle.off_read.specs.Meshes.{AsksCount, EndsAs, at_next_face};
+ghost use Rattle.off_read.specs.Meshes.{EndsAs, EndsAsMesh, GivesCount, FailsCount, GivesEdges, FailsEdges, GivesIndex};
+ghost use Rattle.off_read.specs.Meshes.{FailsIndex, GivesCoordinates, FailsCoordinates, GivesFace, FailsFace, GivesFaces};
+ghost use Rattle.off_read.specs.Meshes.{GivesEnd, FailsEnd, at_next_face};
 ghost use Rattle.off_read.specs.AnyOffs.{dimension_of, mesh_of, IsRightMesh, IsMeshOf, IsRefusal, TakesWhole};
 ghost use Rattle.mesh_audit.specs.OffMeshes.{AreIndices};
 ghost use Rattle.off_read.specs.ScanForms.{limit};
@@ -28,8 +29,8 @@ pub enum AnyOff {
 
 /// Reads the mesh of the file that was begun.
 ///
-/// The file is taken to its end before an answer that is a mesh or a word that does not fit, and at most 2^30 + 1 bytes of
-/// it. Holds the numbers of the simplices and a page of the file, and takes time in proportion to its bytes.
+/// The file is taken to its end before an answer that is a mesh or a word that does not fit, and at most 2^30 + 1
+/// bytes of it. Holds the numbers of the simplices and a page of the file, and takes time in proportion to its bytes.
 pub fn read_off<S: Shelf>(alloc: Global, shelf: &mut S) -> Result<AnyOff, OffFault>
     ensures shelf { IsSameShelf S.faults S.files S.sound shelf.old shelf.new }
     ensures blames { BlamesFairly S.faults shelf.old shelf.new result }
@@ -139,7 +140,7 @@ fn read_body<S: Shelf, const D: usize>(
     ensures shelf { IsSameShelf S.faults S.files S.sound shelf.old shelf.new }
     ensures blames { BlamesFairly S.faults shelf.old shelf.new result }
     ensures sound { S.sound shelf.old → IfErr result (λ fault. IsNone (blame_of fault)) }
-    ensures reads { IfOk result (λ off. EndsAs (S.rest shelf.old) (S.rest shelf.new) reader.old reader.new (at_vertices D) D off.vertices off.simplices) }
+    ensures reads { IfOk result (EndsAsMesh (S.rest shelf.old) (S.rest shelf.new) reader.old reader.new (at_vertices D) D) }
     ensures indices { IfOk result AreIndices }
     ensures few { IfOk result (λ off. length off.simplices < 2 ^ 30) }
     ensures fails { IfErr result (FailsAt (S.rest shelf.old) (S.rest shelf.new) reader.old reader.new (at_vertices D)) }
@@ -162,10 +163,8 @@ fn read_count<S: Shelf>(shelf: &mut S, reader: &mut Reader) -> Result<u32, OffFa
     ensures shelf { IsSameShelf S.faults S.files S.sound shelf.old shelf.new }
     ensures blames { BlamesFairly S.faults shelf.old shelf.new result }
     ensures sound { S.sound shelf.old → IfErr result (λ fault. IsNone (blame_of fault)) }
-    ensures gives { IfOk result (λ count. (before : Stage) (after : ℕ → Stage) → AsksCount before after
-        → Goes (S.rest shelf.old) (S.rest shelf.new) reader.old reader.new before (after count)) }
-    ensures fails { IfErr result (λ fault. (before : Stage) (after : ℕ → Stage) → AsksCount before after
-        → FailsAt (S.rest shelf.old) (S.rest shelf.new) reader.old reader.new before fault) }
+    ensures gives { IfOk result (GivesCount (S.rest shelf.old) (S.rest shelf.new) reader.old reader.new) }
+    ensures fails { IfErr result (FailsCount (S.rest shelf.old) (S.rest shelf.new) reader.old reader.new) }
 {
     let word = expect_word(shelf, reader)?;
     match word.count() {
@@ -180,10 +179,8 @@ fn read_edges<S: Shelf>(shelf: &mut S, reader: &mut Reader) -> Result<(), OffFau
     ensures shelf { IsSameShelf S.faults S.files S.sound shelf.old shelf.new }
     ensures blames { BlamesFairly S.faults shelf.old shelf.new result }
     ensures sound { S.sound shelf.old → IfErr result (λ fault. IsNone (blame_of fault)) }
-    ensures gives { OnOk result ((d v f : ℕ) → Goes (S.rest shelf.old) (S.rest shelf.new) reader.old reader.new
-        (at_edges d v f) (before_coordinates (empty_body d v f) (v * d))) }
-    ensures fails { IfErr result (λ fault. (d v f : ℕ) → FailsAt (S.rest shelf.old) (S.rest shelf.new) reader.old reader.new
-        (at_edges d v f) fault) }
+    ensures gives { OnOk result (GivesEdges (S.rest shelf.old) (S.rest shelf.new) reader.old reader.new) }
+    ensures fails { IfErr result (FailsEdges (S.rest shelf.old) (S.rest shelf.new) reader.old reader.new) }
 {
     let word = expect_word(shelf, reader)?;
     if !word.is_numeral() {
@@ -201,10 +198,8 @@ fn read_coordinates<S: Shelf>(
     ensures shelf { IsSameShelf S.faults S.files S.sound shelf.old shelf.new }
     ensures blames { BlamesFairly S.faults shelf.old shelf.new result }
     ensures sound { S.sound shelf.old → IfErr result (λ fault. IsNone (blame_of fault)) }
-    ensures gives { OnOk result ((b : Body) → Goes (S.rest shelf.old) (S.rest shelf.new) reader.old reader.new
-        (before_coordinates b count) (at_face b None)) }
-    ensures fails { IfErr result (λ fault. (b : Body) → FailsAt (S.rest shelf.old) (S.rest shelf.new) reader.old reader.new
-        (before_coordinates b count) fault) }
+    ensures gives { OnOk result (GivesCoordinates count (S.rest shelf.old) (S.rest shelf.new) reader.old reader.new) }
+    ensures fails { IfErr result (FailsCoordinates count (S.rest shelf.old) (S.rest shelf.new) reader.old reader.new) }
 {
     let mut left = count;
     while left > 0 {
@@ -230,8 +225,8 @@ fn read_faces<S: Shelf, const D: usize>(
     ensures shelf { IsSameShelf S.faults S.files S.sound shelf.old shelf.new }
     ensures blames { BlamesFairly S.faults shelf.old shelf.new result }
     ensures sound { S.sound shelf.old → IfErr result (λ fault. IsNone (blame_of fault)) }
-    ensures gives { IfOk result (λ simplices. Goes (S.rest shelf.old) (S.rest shelf.new) reader.old reader.new
-        (at_next_face D vertices faces []) (at_next_face D vertices faces simplices.items)) }
+    ensures gives { IfOk result (λ simplices. GivesFaces D vertices faces
+        (S.rest shelf.old) (S.rest shelf.new) reader.old reader.new simplices.items) }
     ensures counted { IfOk result (λ simplices. length simplices.items ≡ faces) }
     ensures spends { IfOk result (λ simplices. length simplices.items + budget reader.new ≤ budget reader.old) }
     ensures below { IfOk result (λ simplices. All (All (λ i. i < vertices)) simplices.items) }
@@ -259,12 +254,10 @@ fn read_face<S: Shelf, const D: usize>(
     ensures shelf { IsSameShelf S.faults S.files S.sound shelf.old shelf.new }
     ensures blames { BlamesFairly S.faults shelf.old shelf.new result }
     ensures sound { S.sound shelf.old → IfErr result (λ fault. IsNone (blame_of fault)) }
-    ensures gives { IfOk result (λ simplex. (f : ℕ) (ss : List (List ℕ)) → length ss < f → Goes (S.rest shelf.old) (S.rest shelf.new) reader.old reader.new
-        (at_next_face D vertices f ss) (at_next_face D vertices f (ss ++ simplex ∷ []))) }
+    ensures gives { IfOk result (GivesFace D vertices (S.rest shelf.old) (S.rest shelf.new) reader.old reader.new) }
     ensures spends { OnOk result (budget reader.new < budget reader.old) }
     ensures below { IfOk result (All (λ i. i < vertices)) }
-    ensures fails { IfErr result (λ fault. (f : ℕ) (ss : List (List ℕ)) → length ss < f
-        → FailsAt (S.rest shelf.old) (S.rest shelf.new) reader.old reader.new (at_next_face D vertices f ss) fault) }
+    ensures fails { IfErr result (FailsFace D vertices (S.rest shelf.old) (S.rest shelf.new) reader.old reader.new) }
 {
     let size = expect_word(shelf, reader)?;
     if !size.is(&[b'0' + D as u8]) {
@@ -283,11 +276,9 @@ fn read_index<S: Shelf>(shelf: &mut S, reader: &mut Reader, vertices: u32) -> Re
     ensures shelf { IsSameShelf S.faults S.files S.sound shelf.old shelf.new }
     ensures blames { BlamesFairly S.faults shelf.old shelf.new result }
     ensures sound { S.sound shelf.old → IfErr result (λ fault. IsNone (blame_of fault)) }
-    ensures gives { IfOk result (λ index. (b : Body) (ks : List ℕ) → b.vertices ≡ vertices → Goes (S.rest shelf.old) (S.rest shelf.new) reader.old reader.new
-        (at_index b ks) (with_index b (ks ++ index ∷ []) (lines_passed reader.new))) }
+    ensures gives { IfOk result (GivesIndex vertices (S.rest shelf.old) (S.rest shelf.new) reader.old reader.new) }
     ensures below { IfOk result (λ index. index < vertices) }
-    ensures fails { IfErr result (λ fault. (b : Body) (ks : List ℕ) → b.vertices ≡ vertices
-        → FailsAt (S.rest shelf.old) (S.rest shelf.new) reader.old reader.new (at_index b ks) fault) }
+    ensures fails { IfErr result (FailsIndex vertices (S.rest shelf.old) (S.rest shelf.new) reader.old reader.new) }
 {
     let word = expect_word(shelf, reader)?;
     match word.index(vertices) {
@@ -302,10 +293,8 @@ fn see_end<S: Shelf>(shelf: &mut S, reader: &mut Reader) -> Result<(), OffFault>
     ensures shelf { IsSameShelf S.faults S.files S.sound shelf.old shelf.new }
     ensures blames { BlamesFairly S.faults shelf.old shelf.new result }
     ensures sound { S.sound shelf.old → IfErr result (λ fault. IsNone (blame_of fault)) }
-    ensures gives { OnOk result ((b : Body) → is_whole b ≡ true → EndsAs (S.rest shelf.old) (S.rest shelf.new) reader.old reader.new
-        (at_face b None) b.dimension b.vertices b.simplices) }
-    ensures fails { IfErr result (λ fault. (b : Body) → is_whole b ≡ true
-        → FailsAt (S.rest shelf.old) (S.rest shelf.new) reader.old reader.new (at_face b None) fault) }
+    ensures gives { OnOk result (GivesEnd (S.rest shelf.old) (S.rest shelf.new) reader.old reader.new) }
+    ensures fails { IfErr result (FailsEnd (S.rest shelf.old) (S.rest shelf.new) reader.old reader.new) }
 {
     match reader.next_word(shelf)? {
         Some(word) => Err(OffFault::Extra(word.line)),

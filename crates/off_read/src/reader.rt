@@ -4,7 +4,7 @@ ghost use Rattle.std.specs.Prelude.{◌≡◌, ℕ, ◌+◌, ◌<◌, ◌≤◌,
 ghost use Rattle.iso_base.specs.Shelves.{IsSameShelf};
 ghost use Rattle.iso_formats.specs.MeshFile.{is_gap};
 ghost use Rattle.off_read.specs.Faults.{BlamesFairly, blame_of};
-ghost use Rattle.off_read.specs.Scans.{new_scan, lines_passed, without_line, Gives, GivesByte, Refills, Sees, Fails, Drains, IsInWord, is_passing};
+ghost use Rattle.off_read.specs.Scans.{new_scan, lines_passed, without_line, Gives, GivesByte, Refills, IsSeen, Fails, Drains, is_passing};
 ghost use Rattle.off_read.specs.ScanForms.{limit};
 ghost use Rattle.off_read.specs.WordForms.{IsSoFar};
 
@@ -132,7 +132,7 @@ impl Reader {
         requires { self.old.ended + length self.old.left < self.old.taken }
         ensures kept { (self.new.left ≡ self.old.left) × (self.new.taken ≡ self.old.taken) }
         ensures ended { self.new.ended ≤ self.old.ended + 1 }
-        ensures seen { (text : List ℕ) → IsSoFar word.old text → IsInWord self.old text → Sees self.old self.new word.new text byte result }
+        ensures seen { IsSeen self.old self.new word.old word.new byte result }
     {
         if byte == b'\n' {
             self.ended += 1;

@@ -5,7 +5,7 @@ ghost use Rattle.std.specs.Char.{is_ascii_digit};
 ghost use Rattle.lists.specs.Orders.{has, same_list};
 ghost use Rattle.iso_formats.specs.HeaderLines.{is_empty, is_numeral, numeral_value};
 ghost use Rattle.iso_formats.specs.MeshFile.{is_coordinate, is_count, is_index};
-ghost use Rattle.off_read.specs.WordForms.{IsSoFar, capped_numeral, below};
+ghost use Rattle.off_read.specs.WordForms.{IsSoFar, capped_numeral, count_of, index_of, below};
 
 use arrayvec::ArrayVec;
 use std::marker::Model;
@@ -107,14 +107,14 @@ impl Word {
 
     // The number of vertices or faces that the word writes.
     pub(crate) fn count(&self) -> Option<u32>
-        ensures { (text : List ℕ) → IsSoFar self.now text → result ≡ (if is_count text then Some (numeral_value text) else None) }
+        ensures { (text : List ℕ) → IsSoFar self.now text → result ≡ count_of text }
     {
         number_below(self.numeral(), CAP)
     }
 
     // The vertex, of so many, that the word writes.
     pub(crate) fn index(&self, vertices: u32) -> Option<u32>
-        ensures { (text : List ℕ) → IsSoFar self.now text → result ≡ (if is_index vertices text then Some (numeral_value text) else None) }
+        ensures { (text : List ℕ) → IsSoFar self.now text → result ≡ index_of vertices text }
     {
         number_below(self.numeral(), u64::from(vertices))
     }

@@ -1,8 +1,7 @@
-use Rattle.std.proofs.Common.{ap, sym, refl, ◌≡◌, ◌∙◌, ◌-◌, ℕ, true, false, None, arith, rules, subst}
-use Rattle.std.specs.Prelude.{Option, if◌then◌else◌, Bool}
+use Rattle.std.proofs.Common.{ap, sym, ◌≡◌, ◌∙◌, ◌-◌, ℕ, true, false, arith, subst}
 use Rattle.std.proofs.lemmas.Result.{err_from_is_err_and}
 use Rattle.iso_base.proofs.SameShelf.{IsSameShelf-then}
-use Rattle.iso_formats.specs.MeshFile.{Word, Stage, before_coordinates, at_coordinate, at_face, next_stage, is_coordinate, wrong_coordinate}
+use Rattle.iso_formats.specs.MeshFile.{Word, Stage, before_coordinates, next_stage, is_coordinate, wrong_coordinate}
 use Rattle.off_read.specs.Scans.{Goes}
 use Rattle.off_read.specs.WordForms.{Known}
 use Rattle.off_read.proofs.MeshLaws.{coordinate_asked, coordinate_taken, coordinate_refused, coordinates_unended}
@@ -20,9 +19,11 @@ returns-then-not-is_coordinate-clause-fails g c = λ b.
     let word = c.in_ok-word.ensures.gives in
     let w : Word = record { text = word.text; line = c.in_ok-word.word.line } in
     let no : is_coordinate word.text ≡ false = sym (c.is_coordinate.ensures word.text word.known) ∙ c.if-not-is_coordinate.true in
-    refuses_then _ _ _ c.args.reader.now c.loop-left.reader c.expect_word.new.reader _ (before_coordinates b c.loop-left.left) (wrong_coordinate c.word.inside.line)
+    refuses_then _ _ _ c.args.reader.now c.loop-left.reader c.expect_word.new.reader _ (before_coordinates b c.loop-left.left)
+    (wrong_coordinate c.word.inside.line)
     (c.loop-left.invariant.goes b)
-    (refuses_at _ _ c.loop-left.reader c.expect_word.new.reader c.in_ok-word.word word (before_coordinates b c.loop-left.left) wrong_coordinate c.word.inside.line
+    (refuses_at _ _ c.loop-left.reader c.expect_word.new.reader c.in_ok-word.word word (before_coordinates b c.loop-left.left) wrong_coordinate
+    c.word.inside.line
     (ap (λ (k : Known). k.line) c.word.view_is)
     (ap (λ (s : Stage). next_stage s w) (coordinate_asked b c.loop-left.left c.loop-left-test.true) ∙ coordinate_refused b (c.loop-left.left - 1) w no))
 

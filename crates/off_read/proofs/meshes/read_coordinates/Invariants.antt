@@ -1,4 +1,4 @@
-use Rattle.std.proofs.Common.{◌≡◌, ◌≤◌, ℕ, None}
+use Rattle.std.proofs.Common.{◌≤◌}
 use Rattle.iso_base.specs.Shelves.{IsSameShelf}
 use Rattle.iso_formats.specs.MeshFile.{Body, before_coordinates}
 use Rattle.off_read.specs.ScanForms.{limit}

@@ -1,4 +1,4 @@
-use Rattle.std.proofs.Common.{ap, sym, refl, ◌≡◌, ◌∙◌, ℕ}
+use Rattle.std.proofs.Common.{ap}
 use Rattle.off_read.specs.WordForms.{Known}
 use Rattle.off_read.proofs.MeshLaws.{count_goes, count_fails}
 use Rattle.off_read.proofs.meshes.read_count.Goals as goal

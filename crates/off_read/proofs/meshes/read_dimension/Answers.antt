@@ -1,9 +1,8 @@
-use Rattle.std.proofs.Common.{ap, sym, refl, ◌≡◌, ◌∙◌, ℕ, true, false}
+use Rattle.std.proofs.Common.{ap, sym, refl, ◌≡◌, ◌∙◌, true, false}
 use Rattle.std.specs.Prelude.{codes}
 use Rattle.std.proofs.lemmas.Result.{err_from_is_err_and}
 use Rattle.lists.specs.Orders.{same_list}
 use Rattle.iso_formats.specs.MeshFile.{at_first, at_dimension, at_vertices, wrong_header, is_size}
-use Rattle.off_read.specs.Scans.{Goes}
 use Rattle.off_read.specs.WordForms.{Known}
 use Rattle.off_read.proofs.StageLaws.{goes_word, goes_then, refuses_at, refuses_then, fails_at_then, early}
 use Rattle.off_read.proofs.meshes.read_dimension.Goals as goal

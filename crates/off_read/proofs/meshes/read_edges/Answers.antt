@@ -1,4 +1,4 @@
-use Rattle.std.proofs.Common.{ap, sym, refl, ◌≡◌, ◌∙◌, ℕ, false}
+use Rattle.std.proofs.Common.{ap, sym, refl, ◌≡◌, ◌∙◌, false}
 use Rattle.iso_formats.specs.HeaderLines.{is_numeral}
 use Rattle.iso_formats.specs.MeshFile.{at_edges, wrong_count}
 use Rattle.off_read.specs.WordForms.{Known}

@@ -1,12 +1,12 @@
-use Rattle.std.proofs.Common.{ap, sym, refl, ◌≡◌, ◌∙◌, ◌<◌, ◌+◌, ◌++◌, ◌∷◌, [], ℕ, List, length, take, get_or, false, Some, None, arith, rules, subst}
+use Rattle.std.proofs.Common.{ap, sym, refl, ◌≡◌, ◌∙◌, ◌<◌, ◌++◌, ◌∷◌, [], ℕ, List, length, take, false, Some, None, arith, rules, subst}
 use Rattle.std.proofs.lemmas.Grind.{common_steps}
 use Rattle.std.proofs.lemmas.List.{length-take, take_more_set}
 use Rattle.std.proofs.lemmas.Result.{err_from_is_err_and}
 use Rattle.std.proofs.Math.Seq.{take-length}
 use Rattle.iso_base.proofs.SameShelf.{IsSameShelf-then}
-use Rattle.iso_formats.specs.MeshFile.{Body, Stage, at_face, at_index, with_index, is_size, wrong_size}
+use Rattle.iso_formats.specs.MeshFile.{Body, at_face, at_index, with_index, is_size, wrong_size}
 use Rattle.off_read.specs.ScanForms.{Scan}
-use Rattle.off_read.specs.Scans.{Goes, lines_passed, without_line}
+use Rattle.off_read.specs.Scans.{Goes, lines_passed}
 use Rattle.off_read.specs.Meshes.{at_next_face, body_with}
 use Rattle.off_read.specs.WordForms.{Known}
 use Rattle.off_read.proofs.MeshLaws.{face_refused, index_asked, face_ends, goes_passed}
@@ -61,7 +61,8 @@ returns-clause-gives g c = λ f ss h.
     let next : Body = body_with g.row.D c.args.vertices f (ss ++ s ∷ []) in
     let line = lines_passed c.loop-place.reader in
     let all : take c.loop-place.place s ≡ s =
-    ap (λ (n : ℕ). take n s) (let e : c.loop-place.place ≡ length s = omega (arith, c.loop-place.invariant.long, c.loop-place-test.false) in e) ∙ take-length s in
+    ap (λ (n : ℕ). take n s)
+    (let e : c.loop-place.place ≡ length s = omega (arith, c.loop-place.invariant.long, c.loop-place-test.false) in e) ∙ take-length s in
     subst (λ (r : Scan). Goes (g.S.Shelf.rest c.args.shelf.now) (g.S.Shelf.rest c.loop-place.shelf) c.args.reader.now r
     (at_next_face g.row.D c.args.vertices f ss) (at_face next None)) (sym c.pass_line.ensures)
     (goes_passed _ _ c.args.reader.now c.loop-place.reader _ next

@@ -1,4 +1,4 @@
-use Rattle.std.proofs.Common.{ap, sym, refl, ◌≡◌, ◌∙◌, ◌<◌, ◌∷◌, ◌++◌, ◌+◌, arith, rules, length, [], List, ℕ, All, subst}
+use Rattle.std.proofs.Common.{ap, sym, ◌≡◌, ◌∙◌, ◌<◌, ◌∷◌, ◌++◌, ◌+◌, arith, length, [], List, ℕ, All, subst}
 use Rattle.std.proofs.lemmas.List.{length-append}
 use Rattle.std.proofs.lemmas.List.Elements.{All-append}
 use Rattle.std.proofs.lemmas.Result.{err_from_is_err_and}

@@ -1,4 +1,4 @@
-use Rattle.std.proofs.Common.{◌≡◌, ◌<◌, ◌≤◌, ◌+◌, ◌-◌, ℕ, List, length, All, []}
+use Rattle.std.proofs.Common.{◌<◌, ◌≤◌, ◌+◌, ◌-◌, ℕ, List, length, All, []}
 use Rattle.iso_base.specs.Shelves.{IsSameShelf}
 use Rattle.off_read.specs.ScanForms.{limit}
 use Rattle.off_read.specs.Scans.{Goes, budget}

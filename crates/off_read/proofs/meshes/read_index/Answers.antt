@@ -1,4 +1,4 @@
-use Rattle.std.proofs.Common.{ap, sym, refl, ◌≡◌, ◌∙◌, ℕ}
+use Rattle.std.proofs.Common.{ap}
 use Rattle.off_read.specs.WordForms.{Known}
 use Rattle.off_read.proofs.MeshLaws.{index_goes, index_fails, index_below}
 use Rattle.off_read.proofs.meshes.read_index.Goals as goal

@@ -1,4 +1,4 @@
-use Rattle.std.proofs.Common.{ap, sym, refl, ◌≡◌, ◌∙◌, arith}
+use Rattle.std.proofs.Common.{ap, ◌≡◌, arith}
 use Rattle.std.proofs.lemmas.Result.{err_from_is_err_and}
 use Rattle.iso_formats.specs.MeshFile.{at_first, at_vertices}
 use Rattle.off_read.proofs.StageLaws.{goes_same, fails_at_then, ends_as_then}
@@ -30,9 +30,15 @@ pub returns-in_err-read_body-in_default-clause-fails : goal.returns-in_err-read_
 returns-in_err-read_body-in_default-clause-fails g c =
     let p = err_from_is_err_and c.from_residual-in_err-read_body-in_default.result c.from_residual-in_err-read_body-in_default.ensures.1 in
     rw (p.1, p.2) (fails_at_then _ _ _ c.args.reader.now c.read_dimension.new.reader _ at_first (at_vertices 4) _
-    (goes_same _ _ _ _ _ _ _ (ap at_vertices (let e : c.in_ok-read_dimension.field-0 ≡ 4 = omega (arith, c.in_ok-read_dimension.ensures.known.0, c.in_ok-read_dimension.ensures.known.1) in e)) c.in_ok-read_dimension.ensures.gives) c.in_err-read_body-in_default.ensures.fails)
+    (goes_same _ _ _ _ _ _ _
+    (ap at_vertices
+    (let e : c.in_ok-read_dimension.field-0 ≡ 4 = omega (arith, c.in_ok-read_dimension.ensures.known.0, c.in_ok-read_dimension.ensures.known.1) in e))
+    c.in_ok-read_dimension.ensures.gives) c.in_err-read_body-in_default.ensures.fails)
 
 pub returns-in_ok-read_body-in_default-clause-reads : goal.returns-in_ok-read_body-in_default-clause-reads
 returns-in_ok-read_body-in_default-clause-reads g c =
     ends_as_then _ _ _ c.args.reader.now c.read_dimension.new.reader _ at_first (at_vertices 4) _ _ _
-    (goes_same _ _ _ _ _ _ _ (ap at_vertices (let e : c.in_ok-read_dimension.field-0 ≡ 4 = omega (arith, c.in_ok-read_dimension.ensures.known.0, c.in_ok-read_dimension.ensures.known.1) in e)) c.in_ok-read_dimension.ensures.gives) c.in_ok-read_body-in_default.ensures.reads
+    (goes_same _ _ _ _ _ _ _
+    (ap at_vertices
+    (let e : c.in_ok-read_dimension.field-0 ≡ 4 = omega (arith, c.in_ok-read_dimension.ensures.known.0, c.in_ok-read_dimension.ensures.known.1) in e))
+    c.in_ok-read_dimension.ensures.gives) c.in_ok-read_body-in_default.ensures.reads

@@ -1,10 +1,9 @@
-use Rattle.std.proofs.Common.{ap, sym, refl, ◌≡◌, ◌∙◌, subst}
-use Rattle.std.specs.Prelude.{IfErr, IfOk, IfSome, is_some, true, false}
+use Rattle.std.proofs.Common.{sym, ◌≡◌, ◌∙◌, subst}
+use Rattle.std.specs.Prelude.{IfErr, is_some, true, false}
 use Rattle.std.proofs.lemmas.Result.{err_from_is_err_and, IfErr-at_err, IfOk-weaker}
 use Rattle.iso_formats.specs.MeshFile.{at_first}
 use Rattle.off_read.specs.AnyOffs.{dimension_of, mesh_of, IsRefusal}
 use Rattle.off_read.specs.Faults.{word_cause}
-use Rattle.off_read.specs.Meshes.{EndsAs}
 use Rattle.off_read.specs.Scans.{FailsAt}
 use Rattle.off_read.proofs.OffLaws.{refusal, refusal_lost, refusal_drained, mesh_spelled}
 use Rattle.off_read.proofs.meshes.read_off.Goals as goal

@@ -1,4 +1,4 @@
-use Rattle.std.proofs.Common.{ap, sym, refl, ◌≡◌, ◌∙◌, ℕ, subst, None}
+use Rattle.std.proofs.Common.{ap, refl, subst, None}
 use Rattle.std.specs.Prelude.{Option}
 use Rattle.iso_formats.specs.MeshFile.{at_face, extra_word}
 use Rattle.off_read.specs.Scans.{Gives, GivesWord}

@@ -1,5 +1,4 @@
-use Rattle.std.proofs.Common.{ap, sym, refl, ◌≡◌, ◌∙◌, arith, rules}
-use Rattle.std.specs.Prelude.{ℕ}
+use Rattle.std.proofs.Common.{ap, sym, refl, ◌≡◌, arith, rules}
 use Rattle.std.proofs.lemmas.Result.{err_from_is_err_and}
 use Rattle.off_read.specs.ScanForms.{Scan}
 use Rattle.off_read.proofs.TakingLaws.{fails_then, takes_like, takes_then, none_left}

@@ -1,4 +1,4 @@
-use Rattle.std.proofs.Common.{◌≡◌, ℕ, []}
+use Rattle.std.proofs.Common.{◌≡◌, []}
 use Rattle.iso_base.specs.Shelves.{IsSameShelf}
 use Rattle.off_read.specs.Scans.{TakesFew, budget}
 use Rattle.off_read.proofs.reader.Reader.drain.Given as goal

@@ -1,5 +1,5 @@
-use Rattle.std.proofs.Common.{ap, sym, refl, ◌≡◌, ◌∙◌, arith, rules, subst}
-use Rattle.std.specs.Prelude.{◌<◌, ◌≤◌, ◌+◌, ◌-◌, length, true, take, drop, List, ℕ, Bool}
+use Rattle.std.proofs.Common.{ap, sym, refl, ◌≡◌, ◌∙◌, arith, subst}
+use Rattle.std.specs.Prelude.{◌-◌, length, true, take, drop, List, ℕ, Bool}
 use Rattle.std.proofs.lemmas.List.{length-take}
 use Rattle.off_read.specs.ScanForms.{Scan}
 use Rattle.off_read.specs.Scans.{Refills}

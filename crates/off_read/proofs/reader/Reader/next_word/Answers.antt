@@ -1,8 +1,8 @@
-use Rattle.std.proofs.Common.{ap, sym, refl, ◌≡◌, ◌∙◌, arith, rules, subst}
-use Rattle.std.specs.Prelude.{Bool, Option, ℕ, List, true, false, Some}
+use Rattle.std.proofs.Common.{ap, sym, ◌∙◌, rules, subst}
+use Rattle.std.specs.Prelude.{Bool, Option, ℕ}
 use Rattle.std.proofs.lemmas.Result.{err_from_is_err_and}
-use Rattle.off_read.specs.Scans.{GivesByte, GivesNext, Sees, IsInWord, lines_passed}
-use Rattle.off_read.specs.WordForms.{Known, IsSoFar}
+use Rattle.off_read.specs.Scans.{GivesByte, GivesNext, Sees}
+use Rattle.off_read.specs.WordForms.{Known}
 use Rattle.off_read.proofs.TakingLaws.{fails_then, reads_more, word_ends, finds_end, word_at_end, none_given}
 use Rattle.off_read.proofs.reader.Reader.next_word.Goals as goal
 

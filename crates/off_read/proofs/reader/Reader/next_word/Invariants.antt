@@ -1,4 +1,3 @@
-use Rattle.std.proofs.Common.{◌≡◌, ℕ, []}
 use Rattle.iso_base.specs.Shelves.{IsSameShelf}
 use Rattle.off_read.specs.Scans.{ReadsOn, budget}
 use Rattle.off_read.proofs.reader.Reader.next_word.Given as goal

@@ -1,5 +1,5 @@
-use Rattle.std.proofs.Common.{ap, sym, refl, ◌≡◌, ◌∙◌, arith}
-use Rattle.std.specs.Prelude.{ℕ, ◌+◌, ◌-◌, not, take, drop}
+use Rattle.std.proofs.Common.{ap, sym, refl, ◌≡◌, ◌∙◌}
+use Rattle.std.specs.Prelude.{◌+◌, ◌-◌, not, take, drop}
 use Rattle.off_read.specs.declared.reader.Place.TheVariants.{LineStart, OnLine, Passing}
 use Rattle.off_read.specs.ScanForms.{Scan}
 use Rattle.off_read.proofs.SeeLaws.{sees_feed, sees_hash, sees_gap, sees_passing, sees_byte, sees_at}

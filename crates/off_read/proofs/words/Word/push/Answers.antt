@@ -1,4 +1,4 @@
-use Rattle.std.proofs.Common.{ap, sym, ◌≡◌, ◌&&◌, ◌||◌, ◌∙◌, Bool, List, ℕ}
+use Rattle.std.proofs.Common.{ap, ◌≡◌}
 use Rattle.off_read.specs.WordForms.{Known}
 use Rattle.off_read.proofs.WordLaws.{pushed}
 use Rattle.off_read.proofs.words.Word.push.Goals as goal

@@ -1,0 +1,83 @@
+//! Files that are read, and files that are refused, as the formats say.
+
+use crate::{AnyOff, OffFault, read_off};
+use iso_base::{MemFile, MemShelf, Shelf};
+use std::alloc::Global;
+use std::test::Fail;
+
+/// A file, and its vertices with the number of its simplices, or its fault.
+type Row = (&'static str, Result<(u32, usize), OffFault>);
+
+const ROWS: [Row; 18] = [
+    (
+        "OFF\n3 2 0\n0 0 0\n1 0 0\n0 1 0\n3 0 1 2\n3 0 1 2\n",
+        Ok((3, 2)),
+    ),
+    // A comment, counts on the first line, other ways to write a coordinate, a colour, CR LF, no last line end.
+    (
+        "OFF 3 1 0 # made by hand\r\n1e-3 -.5 +7\r\n0 0 0\r\n0 0 0\r\n3 0 1 2 255 0 0",
+        Ok((3, 1)),
+    ),
+    (
+        "# x\n\nnOFF 2\n2 1 0\n0 0 1 1 2 \n1\n\n# x\n\r\t0 red # blue",
+        Ok((2, 1)),
+    ),
+    ("nOFF 4\n1 0 007\n0 0 0 0#", Ok((1, 0))),
+    ("OFF 4294967295 0 0\n", Err(OffFault::Short(1))),
+    (
+        "OFF 0 4294967295 99999999999999999999999\n",
+        Err(OffFault::Short(1)),
+    ),
+    ("OFF 0 4294967296 0", Err(OffFault::Count(1))),
+    ("", Err(OffFault::Short(0))),
+    ("\n#\nOFF", Err(OffFault::Short(3))),
+    (
+        "OFF 4 1 4\n0 0 0\n1 0 0\n1 1 0\n0 1 0\n4 0 1 2 3\n",
+        Err(OffFault::FaceSize(6)),
+    ),
+    ("COFF\n", Err(OffFault::Header(1))),
+    ("OFF BINARY\n", Err(OffFault::Count(1))),
+    ("nOFF 03\n", Err(OffFault::Header(1))),
+    ("OFF 1 0 0\n0 - 0", Err(OffFault::Coordinate(2))),
+    ("OFF 1 0 0\n0 0 0 7\n", Err(OffFault::Extra(2))),
+    ("OFF 1 1 0\n0 0 0\n3 0 0 1", Err(OffFault::Index(3))),
+    (
+        "OFF 3 2 0\n0 0 0 0 0 0 0 0 0\n3 0 1 2 3 0 1 2\n",
+        Err(OffFault::Short(3)),
+    ),
+    (
+        "OFF 3 1 0\n0 0 0 0 0 0 0 0 0\n2 0 1\n",
+        Err(OffFault::FaceSize(3)),
+    ),
+];
+
+fn read(alloc: Global, text: &str) -> Result<Result<AnyOff, OffFault>, Fail> {
+    let mut files = Vec::new(alloc);
+    files.push(MemFile {
+        name: String::from_str(alloc, "mesh")?,
+        bytes: Vec::from_slice(alloc, text.as_bytes())?,
+    })?;
+    let mut shelf = MemShelf::new(files, Vec::new(alloc), 3);
+    shelf.begin("mesh").ok().ok_or("begin")?;
+    Ok(read_off(alloc, &mut shelf))
+}
+
+fn counts(off: &AnyOff) -> (u32, usize) {
+    match off {
+        AnyOff::O2(off) => (off.vertices, off.simplices.len()),
+        AnyOff::O3(off) => (off.vertices, off.simplices.len()),
+        AnyOff::O4(off) => (off.vertices, off.simplices.len()),
+    }
+}
+
+#[test]
+fn files_are_read_or_refused(rt: HostRuntime) -> Result<(), Fail> {
+    for (text, want) in &ROWS {
+        match (read(rt.alloc(), text)?, want) {
+            (Ok(off), Ok(want)) => assert_eq!(rt; counts(&off), *want, "{text}"),
+            (Err(fault), Err(want)) => assert_eq!(rt; fault, *want, "{text}"),
+            _ => return Err("another answer".into()),
+        }
+    }
+    Ok(())
+}
