@@ -13,6 +13,8 @@ use Rattle.iso_formats.specs.TableFile.{table_limit}
 use Rattle.iso_formats.specs.TableFile2.{IsFileTooLong, IsTableFile, limit_of, table_limit2}
 use Rattle.iso_model.specs.Tables.{IsTable, Table}
 use Rattle.nrrd_raw.specs.Undecided.{TakesSuch}
+use Rattle.iso_base.specs.Shelves.{TakesAtMost}
+use Rattle.iso_cli.specs.Rests.{IsTableFront}
 use Rattle.iso_cli.specs.Shelves.{AreFrontOf}
 
 -- some bytes, and then more of them
@@ -83,6 +85,19 @@ AreFrontOf_longer (Some a) xs m n p short h =
 pub TakesSuch_more : (P Q : List ℕ → Type 0) (a b c : Option (List ℕ)) (xs : List ℕ) → ((ys : List ℕ) → P ys → Q (xs ++ ys)) → Consumes a b xs
     → TakesSuch P b c → TakesSuch Q a c
 TakesSuch_more P Q a b c xs go first then' = (xs ++ then'.0, go then'.0 then'.1, Consumes_more a b c xs then'.0 first then'.2)
+
+-- few bytes are within the limit and one byte
+pub front_below : (a b : Option (List ℕ)) → TakesAtMost (2 ^ 30 + 1) a b → TakesSuch IsTableFront a b
+front_below a b taken = (taken.0, omega (arith, taken.1, limit_least taken.0), taken.2)
+
+-- and so are those that the limit allows behind them
+pub front_more : (a b c : Option (List ℕ)) (xs : List ℕ) (most : ℕ) → length xs ≡ 2 ^ 30 + 1 → most ≡ limit_of xs → Consumes a b xs
+    → TakesAtMost (most - 2 ^ 30) b c → TakesSuch IsTableFront a c
+front_more a b c xs most count is first taken = (
+  xs ++ taken.0,
+  omega (arith, count, is, taken.1, limit_front xs taken.0 (omega (arith, count)), length-append xs taken.0, limit_least xs),
+  Consumes_more a b c xs taken.0 first taken.2,
+)
 
 -- a file of which more was read than its limit has that limit, and is too long
 pub long_file : (bytes front : List ℕ) → front ≡ take (limit_of front + 1) bytes → limit_of front < length front

@@ -1,5 +1,5 @@
 -- What is left of the file that was read last, after a refusal or a fault.
-use Rattle.std.specs.Prelude.{◌≡◌, ◌⊎◌, ◌+◌, ◌++◌, ℕ, List, [], drop, length, Option, Some, None, ⊤}
+use Rattle.std.specs.Prelude.{◌≤◌, ◌≡◌, ◌⊎◌, ◌+◌, ◌++◌, ℕ, List, [], drop, length, Option, Some, None, ⊤}
 use Rattle.iso_base.specs.Files.{Files, file_bytes}
 use Rattle.iso_formats.specs.GridFile.{Header, HasHeader}
 use Rattle.iso_formats.specs.TableFile2.{IsFileTooLong, limit_of}
@@ -39,6 +39,10 @@ IsTakenFrom (Some files) name rest P =
 -- these first bytes of a table file may be all of it
 abbrev pub IsOpenTable : List ℕ → Type 0
 IsOpenTable bytes = ¬ IsFileTooLong bytes
+
+-- at most one byte more than a table file may have which begins so
+abbrev pub IsTableFront : List ℕ → Type 0
+IsTableFront bytes = length bytes ≤ limit_of bytes + 1
 
 -- for a table of dimension d, bytes of a grid file decide nothing: they can still begin a header that is not ended, or they begin with a header of
 -- this dimension, and nothing is decided by what stands behind it

@@ -4,6 +4,7 @@ ghost use Rattle.std.specs.Prelude.{◌≡◌, ◌+◌, ◌≤◌, length, None,
 ghost use Rattle.std.specs.Io.KnownBytes.{Consumes};
 ghost use Rattle.iso_base.specs.Files.{bytes_of};
 ghost use Rattle.iso_base.specs.Shelves.{IsSameShelf};
+ghost use Rattle.nrrd_raw.specs.Undecided.{TakesSuch};
 ghost use Rattle.iso_formats.specs.GridFile.{SpellsGrid};
 ghost use Rattle.iso_formats.specs.TableFile2.{limit_of};
 ghost use Rattle.iso_model.specs.Values.{IsRegularGrid};
@@ -11,7 +12,7 @@ ghost use Rattle.table_file.specs.Reading.{table_in};
 ghost use Rattle.iso_cli.specs.Checked.{checked_in};
 ghost use Rattle.iso_cli.specs.Refusals.{FileHas, HoldBoth, HoldsAccepted, HoldsTable, LacksMeshFile};
 ghost use Rattle.iso_cli.specs.Refusals.{IsRefusedFile, IsRefusedForm, IsRefusedGrid, IsRefusedMesh, IsRefusedTable};
-ghost use Rattle.iso_cli.specs.Rests.{IsOpenTable, LeavesGridFile, LeavesMeshFile, LeavesTableFile};
+ghost use Rattle.iso_cli.specs.Rests.{IsOpenTable, IsTableFront, LeavesGridFile, LeavesMeshFile, LeavesTableFile};
 ghost use Rattle.iso_cli.specs.Shelves.{AreFrontOf, BlamesShelf, BlamesWhile, FailsOnlyFor};
 ghost use Rattle.iso_cli.specs.Statuses.{IfDecided, IsOfFiles, IsOfForm, IsOfGrid, IsOfReading, IsOfTable, IsShelfFault};
 
@@ -46,10 +47,11 @@ fn read_to_limit<S: Shelf>(alloc: Global, shelf: &mut S) -> Result<Vec<u8>, Stat
     ensures fault { IfErr result (λ status. BlamesShelf status (S.faults shelf.old) (S.faults shelf.new)) }
     ensures sound { S.sound shelf.old → IfErr result (λ status. ¬ IsShelfFault status) }
     ensures refused { IfErr result IsOfReading }
+    ensures taken { TakesSuch IsTableFront (S.rest shelf.old) (S.rest shelf.new) }
     ensures undecided { IfErr result (BlamesWhile IsOpenTable (S.rest shelf.old) (S.rest shelf.new)) }
     ensures came { IfOk result (λ bytes. Consumes (S.rest shelf.old) (S.rest shelf.new) bytes.items) }
     ensures front { IfOk result (λ bytes. AreFrontOf (limit_of bytes.items + 1) (S.rest shelf.old) bytes.items) }
-    ensures few { IfOk result (λ bytes. length bytes.items ≤ limit_of bytes.items + 1) }
+    ensures few { IfOk result (λ bytes. IsTableFront bytes.items) }
 {
     let mut bytes = read_front(alloc, shelf, TABLE_LIMIT + 1)?;
     if bytes.len() <= TABLE_LIMIT {

@@ -5,7 +5,7 @@ use Rattle.iso_cli.specs.declared.status.Status.{Status}
 use Rattle.iso_cli.specs.Rests.{IsOpenTable}
 use Rattle.iso_cli.specs.Shelves.{BlamesWhile}
 use Rattle.iso_cli.specs.Statuses.{IsShelfFault}
-use Rattle.iso_cli.proofs.FileTaking.{AreFrontOf_longer, TakesSuch_more, front_all, limit_least, open_below, open_more}
+use Rattle.iso_cli.proofs.FileTaking.{front_below, front_more, AreFrontOf_longer, TakesSuch_more, front_all, limit_least, open_below, open_more}
 use Rattle.iso_cli.proofs.Refusing.{IfErr-more}
 use Rattle.iso_cli.proofs.files.read_to_limit.Goals as goal
 
@@ -47,3 +47,33 @@ returns-clause-front g c =
     let joined : c.extend_from_slice.new.self.items ≡ bytes ++ c.in_ok-more.more.items = grind (arith, common_steps) in
     front_all (g.S.Shelf.rest c.args.shelf.now) (g.S.Shelf.rest c.read_front.new.shelf) bytes c.in_ok-more.more.items
     c.extend_from_slice.new.self.items c.table_limit.result count most c.in_ok-bytes.ensures.came c.in_ok-more.ensures.front joined
+
+pub returns-in_err-more-clause-taken : goal.returns-in_err-more-clause-taken
+returns-in_err-more-clause-taken g c =
+    let bytes = c.in_ok-bytes.bytes.items in
+    let count : length bytes ≡ 1073741825 = grind (arith, common_steps) in
+    let most : c.table_limit.result ≡ limit_of bytes = c.table_limit.ensures ∙ ap (λ (bs : List ℕ). limit_of bs) c.deref.ensures.value in
+    front_more (g.S.Shelf.rest c.args.shelf.now) (g.S.Shelf.rest c.read_front.new.shelf) (g.S.Shelf.rest c.read_front-2.new.shelf) bytes
+    c.table_limit.result count most c.in_ok-bytes.ensures.came c.read_front-2.ensures.taken
+
+pub returns-in_err-extend_from_slice-clause-taken : goal.returns-in_err-extend_from_slice-clause-taken
+returns-in_err-extend_from_slice-clause-taken g c =
+    let bytes = c.in_ok-bytes.bytes.items in
+    let count : length bytes ≡ 1073741825 = grind (arith, common_steps) in
+    let most : c.table_limit.result ≡ limit_of bytes = c.table_limit.ensures ∙ ap (λ (bs : List ℕ). limit_of bs) c.deref.ensures.value in
+    front_more (g.S.Shelf.rest c.args.shelf.now) (g.S.Shelf.rest c.read_front.new.shelf) (g.S.Shelf.rest c.read_front-2.new.shelf) bytes
+    c.table_limit.result count most c.in_ok-bytes.ensures.came c.read_front-2.ensures.taken
+
+pub returns-clause-taken : goal.returns-clause-taken
+returns-clause-taken g c =
+    let bytes = c.in_ok-bytes.bytes.items in
+    let count : length bytes ≡ 1073741825 = grind (arith, common_steps) in
+    let most : c.table_limit.result ≡ limit_of bytes = c.table_limit.ensures ∙ ap (λ (bs : List ℕ). limit_of bs) c.deref.ensures.value in
+    front_more (g.S.Shelf.rest c.args.shelf.now) (g.S.Shelf.rest c.read_front.new.shelf) (g.S.Shelf.rest c.read_front-2.new.shelf) bytes
+    c.table_limit.result count most c.in_ok-bytes.ensures.came c.read_front-2.ensures.taken
+
+pub returns-in_err-bytes-clause-taken : goal.returns-in_err-bytes-clause-taken
+returns-in_err-bytes-clause-taken g c = front_below (g.S.Shelf.rest c.args.shelf.now) (g.S.Shelf.rest c.read_front.new.shelf) c.read_front.ensures.taken
+
+pub returns-then-len-le-TABLE_LIMIT-clause-taken : goal.returns-then-len-le-TABLE_LIMIT-clause-taken
+returns-then-len-le-TABLE_LIMIT-clause-taken g c = front_below (g.S.Shelf.rest c.args.shelf.now) (g.S.Shelf.rest c.read_front.new.shelf) c.read_front.ensures.taken
