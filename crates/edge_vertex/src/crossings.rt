@@ -68,14 +68,14 @@ fn share(run: i64, part: u64, way: u64) -> i64
     ensures share { result ≡ int_div_euclid (pos 500000 *ℤ run *ℤ pos part) (pos way) }
     ensures small { unsigned_abs result ≤ 1000000 }
 {
-    scaled(run, part).div_euclid(i128::from(way)) as i64
+    scaled(run, part).div_euclid(way as i64)
 }
 
 // Half a million times the run times the part.
-fn scaled(run: i64, part: u64) -> i128
+fn scaled(run: i64, part: u64) -> i64
     requires near { unsigned_abs run ≤ 2 }
     requires few { part ≤ 2 ^ 37 }
     ensures { result ≡ pos 500000 *ℤ run *ℤ pos part }
 {
-    i128::from(500000 * run) * i128::from(part)
+    500000 * run * part as i64
 }
