@@ -3,7 +3,7 @@ use Rattle.std.specs.Prelude.{◌≡◌, ℕ, ◌*◌, ◌<◌, ◌++◌, ◌∷
 use Rattle.std.specs.Io.KnownBytes.{IsAtEnd}
 use Rattle.iso_formats.specs.HeaderLines.{numeral_value}
 use Rattle.iso_formats.specs.MeshFile.{Word, Body, Stage, is_count, next_stage, stopped, at_face, wrong_count, ends_at, mesh_refused, mesh_read, short_of_words}
-use Rattle.iso_formats.specs.MeshFile.{at_edges, at_index, before_coordinates, empty_body, with_index, is_whole}
+use Rattle.iso_formats.specs.MeshFile.{at_edges, at_first, at_index, at_vertices, before_coordinates, empty_body, with_index, is_whole}
 use Rattle.mesh_audit.specs.OffMeshes.{Off}
 use Rattle.off_read.specs.ScanForms.{Scan}
 use Rattle.off_read.specs.Scans.{TakesFew, Told, Goes, FailsAt, reading, lines_passed}
@@ -33,6 +33,10 @@ pub record EndsAs (old_rest new_rest : Option (List ℕ)) (old new : Scan) (stag
   pub reads : Told old_rest new_rest (λ a b. reading old stage a ≡ mesh_read d v simplices)
 
 -- ---- what each part gives, and how it fails
+
+-- the dimension that the first words say
+abbrev pub GivesDimension : Option (List ℕ) → Option (List ℕ) → Scan → Scan → ℕ → Type 0
+GivesDimension old_rest new_rest old new d = Goes old_rest new_rest old new at_first (at_vertices d)
 
 -- a number of vertices or faces
 abbrev pub GivesCount : Option (List ℕ) → Option (List ℕ) → Scan → Scan → ℕ → Type 0
@@ -85,6 +89,13 @@ FailsEnd old_rest new_rest old new fault = (b : Body) → is_whole b ≡ true �
 abbrev pub GivesFaces : ℕ → ℕ → ℕ → Option (List ℕ) → Option (List ℕ) → Scan → Scan → List (List ℕ) → Type 0
 GivesFaces d v f old_rest new_rest old new simplices = Goes old_rest new_rest old new (at_next_face d v f []) (at_next_face d v f simplices)
 
+abbrev pub FailsFaces : ℕ → ℕ → ℕ → Option (List ℕ) → Option (List ℕ) → Scan → Scan → OffFault → Type 0
+FailsFaces d v f old_rest new_rest old new fault = FailsAt old_rest new_rest old new (at_next_face d v f []) fault
+
 -- a mesh
 abbrev pub EndsAsMesh : Option (List ℕ) → Option (List ℕ) → Scan → Scan → Stage → ℕ → Off → Type 0
 EndsAsMesh old_rest new_rest old new stage d off = EndsAs old_rest new_rest old new stage d off.vertices off.simplices
+
+-- what stands behind the first words is a mesh of this dimension
+abbrev pub EndsAsMeshOf : ℕ → Option (List ℕ) → Option (List ℕ) → Scan → Scan → Off → Type 0
+EndsAsMeshOf d old_rest new_rest old new off = EndsAsMesh old_rest new_rest old new (at_vertices d) d off

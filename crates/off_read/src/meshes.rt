@@ -4,13 +4,13 @@ ghost use Rattle.std.specs.Prelude.{◌≡◌, ℕ, ◌+◌, ◌*◌, ◌^◌, �
 ghost use Rattle.iso_base.specs.Shelves.{IsSameShelf};
 ghost use Rattle.iso_formats.specs.MeshFile.{at_first, at_vertices};
 ghost use Rattle.off_read.specs.Faults.{BlamesFairly, blame_of, word_cause};
-ghost use Rattle.off_read.specs.Meshes.{EndsAs, EndsAsMesh, GivesCount, FailsCount, GivesEdges, FailsEdges, GivesIndex};
+ghost use Rattle.off_read.specs.Meshes.{EndsAs, GivesCount, FailsCount, GivesEdges, FailsEdges, GivesIndex};
 ghost use Rattle.off_read.specs.Meshes.{FailsIndex, GivesCoordinates, FailsCoordinates, GivesFace, FailsFace, GivesFaces};
-ghost use Rattle.off_read.specs.Meshes.{GivesEnd, FailsEnd, at_next_face};
+ghost use Rattle.off_read.specs.Meshes.{EndsAsMeshOf, FailsEnd, FailsFaces, GivesDimension, GivesEnd};
 ghost use Rattle.off_read.specs.AnyOffs.{dimension_of, mesh_of, IsRightMesh, IsMeshOf, IsRefusal, TakesWhole};
 ghost use Rattle.mesh_audit.specs.OffMeshes.{AreIndices};
 ghost use Rattle.off_read.specs.ScanForms.{limit};
-ghost use Rattle.off_read.specs.Scans.{EndsEarly, FailsAt, Goes, GivesWord, budget, lines_passed};
+ghost use Rattle.off_read.specs.Scans.{EndsEarly, FailsAt, GivesWord, budget, lines_passed};
 
 use crate::faults::OffFault;
 use crate::reader::Reader;
@@ -103,7 +103,7 @@ fn read_dimension<S: Shelf>(shelf: &mut S, reader: &mut Reader) -> Result<u8, Of
     ensures shelf { IsSameShelf S.faults S.files S.sound shelf.old shelf.new }
     ensures blames { BlamesFairly S.faults shelf.old shelf.new result }
     ensures sound { S.sound shelf.old → IfErr result (λ fault. IsNone (blame_of fault)) }
-    ensures gives { IfOk result (λ d. Goes (S.rest shelf.old) (S.rest shelf.new) reader.old reader.new at_first (at_vertices d)) }
+    ensures gives { IfOk result (GivesDimension (S.rest shelf.old) (S.rest shelf.new) reader.old reader.new) }
     ensures known { IfOk result (λ d. (2 ≤ d) × (d ≤ 4)) }
     ensures spends { OnOk result (budget reader.new < budget reader.old) }
     ensures fails { IfErr result (FailsAt (S.rest shelf.old) (S.rest shelf.new) reader.old reader.new at_first) }
@@ -140,7 +140,7 @@ fn read_body<S: Shelf, const D: usize>(
     ensures shelf { IsSameShelf S.faults S.files S.sound shelf.old shelf.new }
     ensures blames { BlamesFairly S.faults shelf.old shelf.new result }
     ensures sound { S.sound shelf.old → IfErr result (λ fault. IsNone (blame_of fault)) }
-    ensures reads { IfOk result (EndsAsMesh (S.rest shelf.old) (S.rest shelf.new) reader.old reader.new (at_vertices D) D) }
+    ensures reads { IfOk result (EndsAsMeshOf D (S.rest shelf.old) (S.rest shelf.new) reader.old reader.new) }
     ensures indices { IfOk result AreIndices }
     ensures few { IfOk result (λ off. length off.simplices < 2 ^ 30) }
     ensures fails { IfErr result (FailsAt (S.rest shelf.old) (S.rest shelf.new) reader.old reader.new (at_vertices D)) }
@@ -230,7 +230,7 @@ fn read_faces<S: Shelf, const D: usize>(
     ensures counted { IfOk result (λ simplices. length simplices.items ≡ faces) }
     ensures spends { IfOk result (λ simplices. length simplices.items + budget reader.new ≤ budget reader.old) }
     ensures below { IfOk result (λ simplices. All (All (λ i. i < vertices)) simplices.items) }
-    ensures fails { IfErr result (FailsAt (S.rest shelf.old) (S.rest shelf.new) reader.old reader.new (at_next_face D vertices faces [])) }
+    ensures fails { IfErr result (FailsFaces D vertices faces (S.rest shelf.old) (S.rest shelf.new) reader.old reader.new) }
 {
     let mut simplices = Vec::new(alloc);
     while simplices.len() < faces as usize {
