@@ -1,0 +1,2 @@
+mod FaultLists
+mod OneFaultList
