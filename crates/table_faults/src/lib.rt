@@ -6,10 +6,12 @@
 
 mod faults;
 mod laws;
+mod lines;
 mod list;
 #[cfg(test)]
 mod tests;
 
 pub use faults::Fault;
 pub use laws::{first_fault_law, no_fault_law, one_list_law};
+pub use lines::fault_text;
 pub use list::table_faults;

@@ -1,6 +1,6 @@
 //! The faults of spoiled tables, worked by hand from the rules.
 
-use crate::{Fault, table_faults};
+use crate::{Fault, fault_text, table_faults};
 use cell_lattice::{CubeCell, SimplexCell};
 use seam_traces::Clash;
 use std::alloc::Global;
@@ -105,5 +105,17 @@ fn faults_of_spoiled_tables(rt: HostRuntime) -> Result<(), Fail> {
     let tetrahedron = faults(alloc, &TETRAHEDRON, 34, 44, &twice)?;
     assert!(rt; tetrahedron.as_slice() == of_label_3.as_slice());
     assert!(rt; faults(alloc, &TETRAHEDRON, 0, 0, &[])?.is_empty());
+    Ok(())
+}
+
+#[test]
+fn lines_of_faults(rt: HostRuntime) -> Result<(), Fail> {
+    let rule = fault_text(&fails(65535, 4));
+    assert_eq!(rt; rule.as_str(), "label 65535 rule 4\n");
+    let clash = fault_text(&clashes(201, 3, 60, 2));
+    assert_eq!(rt;
+        clash.as_str(),
+        "label 201 rule 6 facet 3 against label 60 facet 2\n"
+    );
     Ok(())
 }
