@@ -6,3 +6,5 @@ pub mod EdgePlaneSteps
 pub mod FlagSteps
 pub mod CentreSums
 pub mod SliceRows
+pub mod ScanRoom
+pub mod ScanPlanes

@@ -9,7 +9,7 @@ use Rattle.bit_rows.specs.Rows.{IsRowOf, row_bit}
 use Rattle.grid_rows.specs.declared.grids.GridRows.{GridRows}
 use Rattle.grid_rows.specs.declared.planes.BitPlane.{BitPlane}
 use Rattle.grid_rows.specs.Planes.{HasRowOfBits, bit_row, with_bits}
-use Rattle.grid_rows.specs.RowNumbers.{bordered_rows, cube_rows}
+use Rattle.grid_rows.specs.RowNumbers.{bordered_rows, cube_rows, sample_row, sample_rows}
 use Rattle.grid_rows.proofs.PlaneRows.{kept_rows}
 use Rattle.layer_scan.specs.Corners.{HaveCorners}
 use Rattle.layer_scan.specs.CubePlanes.{HasRows, KeepsBorder, with_border}
@@ -51,6 +51,16 @@ within_border rows c h =
     let turned : c < rows.third.cubes * n = omega (arith, h) in
     let high : c / n + 1 < rows.third.cubes + 2 = omega (arith, div_below c n rows.third.cubes some turned) in
     next_below (c % n + 1) (n + 2) (c / n + 1) (rows.third.cubes + 2) low high
+
+-- the first corner of a row of cubes is in a row of samples
+pub sample_row_there : (rows : GridRows) (c : ℕ) → c < cube_rows rows → sample_row rows (c % rows.second.cubes) (c / rows.second.cubes) < sample_rows rows
+sample_row_there rows c h =
+    let n : ℕ = rows.second.cubes in
+    let some : 0 < n = left_positive c n rows.third.cubes h in
+    let turned : c < rows.third.cubes * n = omega (arith, h) in
+    let low : c % n < rows.second.samples = omega (arith, mod_below c n some, rows.few.0.2) in
+    let high : c / n < rows.third.samples = omega (arith, div_below c n rows.third.cubes some turned, rows.few.1.2) in
+    next_below (c % n) rows.second.samples (c / n) rows.third.samples low high
 
 -- the rows of cubes below a number are told by a test
 abbrev pub AreBelow : GridRows → (ℕ → ℕ → Bool) → ℕ → BitPlane → Type 0

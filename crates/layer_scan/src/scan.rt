@@ -1,37 +1,70 @@
 //! What a scan from slice to slice keeps of the slices and of the cubes between them.
 
-ghost use Rattle.std.specs.Prelude.{◌≡◌, ◌*◌, ◌-◌, ◌≤◌, ◌^◌, length};
+ghost use Rattle.std.specs.Prelude.{◌≡◌, ◌*◌, ◌-◌, ◌≤◌, ◌^◌, IfOk, length, unsigned_abs};
 ghost use Rattle.bit_rows.specs.SampleRows.{is_above, is_clear_at};
 ghost use Rattle.grid_rows.specs.RowNumbers.{bordered_rows, cube_rows, sample_rows};
 ghost use Rattle.layer_scan.specs.CubePlanes.{AreCubeBits, AreEither, every_at};
 ghost use Rattle.layer_scan.specs.FlaggedCubes.{flag_at};
-ghost use Rattle.layer_scan.specs.ScanPlanes.{HasPlanes, IsSameScan};
+ghost use Rattle.layer_scan.specs.ScanPlanes.{HasFewSamples, HasPlanes, IsNewPlane, IsNewScan, IsSameScan};
 ghost use Rattle.layer_scan.specs.SlicePlanes.{AreSampleBits};
 
 use crate::flags::write_flags;
 use crate::kept::{write_either, write_kept};
 use crate::slices::{write_clear, write_signs};
 use grid_rows::{BitPlane, GridRows};
+use iso_base::Memory;
+use std::alloc::Global;
 use std::mem::swap;
 
-/// What is kept of two slices, a lower and an upper one, of the layer between them and of the one below.
+/// What is kept of two slices, a lower and an upper one, of the layer between them and of the one below, and the signs
+/// of the slice below the lower one.
 #[derive(Drop)]
 pub struct LayerPlanes {
-    rows: GridRows,
-    iso: i64,
-    blank: Option<i64>,
-    /// The signs of the samples of the two slices, and which of them are not blank.
-    lower_signs: BitPlane,
-    upper_signs: BitPlane,
-    lower_clear: BitPlane,
-    upper_clear: BitPlane,
+    pub rows: GridRows,
+    pub iso: i64,
+    pub blank: Option<i64>,
+    /// The signs of the samples of the slice below the lower one, and of the two slices, and which of the samples of the
+    /// two are not blank.
+    pub below_signs: BitPlane,
+    pub lower_signs: BitPlane,
+    pub upper_signs: BitPlane,
+    pub lower_clear: BitPlane,
+    pub upper_clear: BitPlane,
     /// The kept cubes below the lower slice, those above it, and both together.
-    kept_below: BitPlane,
-    kept: BitPlane,
-    around: BitPlane,
+    pub kept_below: BitPlane,
+    pub kept: BitPlane,
+    pub around: BitPlane,
 }
 
 impl LayerPlanes {
+    /// The planes of a scan of a grid of these rows that has met nothing. The isovalue is at most 2^40 from 0.
+    ///
+    /// `Memory` where they do not fit into memory.
+    pub fn new(
+        alloc: Global,
+        rows: GridRows,
+        iso: i64,
+        blank: Option<i64>,
+    ) -> Result<LayerPlanes, Memory>
+        requires samples { HasFewSamples rows }
+        requires iso { unsigned_abs iso ≤ 2 ^ 40 }
+        ensures { IfOk result (IsNewScan rows iso blank) }
+    {
+        Ok(LayerPlanes {
+            rows,
+            iso,
+            blank,
+            below_signs: new_samples(alloc, &rows)?,
+            lower_signs: new_samples(alloc, &rows)?,
+            upper_signs: new_samples(alloc, &rows)?,
+            lower_clear: new_samples(alloc, &rows)?,
+            upper_clear: new_samples(alloc, &rows)?,
+            kept_below: new_cubes(alloc, &rows)?,
+            kept: new_cubes(alloc, &rows)?,
+            around: new_cubes(alloc, &rows)?,
+        })
+    }
+
     /// Begins with a slice as the lower one.
     pub fn begin(&mut self, slice: &[i64])
         requires planes { HasPlanes self.old }
@@ -41,6 +74,7 @@ impl LayerPlanes {
         ensures signs { AreSampleBits self.old.rows (is_above self.old.iso) slice.now self.new.lower_signs }
         ensures clear { AreSampleBits self.old.rows (is_clear_at self.old.blank) slice.now self.new.lower_clear }
         ensures kept_below { self.new.kept_below ≡ self.old.kept_below }
+        ensures below { self.new.below_signs ≡ self.old.below_signs }
     {
         write_signs(&mut self.lower_signs, &self.rows, slice, self.iso);
         write_clear(&mut self.lower_clear, &self.rows, slice, self.blank);
@@ -55,6 +89,7 @@ impl LayerPlanes {
         ensures kept_below { AreCubeBits self.old.rows (flag_at self.old.rows flags.now) self.new.kept_below }
         ensures signs { self.new.lower_signs ≡ self.old.lower_signs }
         ensures clear { self.new.lower_clear ≡ self.old.lower_clear }
+        ensures below { self.new.below_signs ≡ self.old.below_signs }
     {
         write_flags(&mut self.kept_below, &self.rows, flags);
     }
@@ -65,6 +100,7 @@ impl LayerPlanes {
         requires upper { length upper.now ≡ sample_rows self.old.rows * self.old.rows.length }
         ensures planes { HasPlanes self.new }
         ensures same { IsSameScan self.old self.new }
+        ensures below { self.new.below_signs ≡ self.old.below_signs }
         ensures lower_signs { self.new.lower_signs ≡ self.old.lower_signs }
         ensures lower_clear { self.new.lower_clear ≡ self.old.lower_clear }
         ensures kept_below { self.new.kept_below ≡ self.old.kept_below }
@@ -90,12 +126,30 @@ impl LayerPlanes {
         requires planes { HasPlanes self.old }
         ensures planes { HasPlanes self.new }
         ensures same { IsSameScan self.old self.new }
+        ensures below { self.new.below_signs ≡ self.old.lower_signs }
         ensures signs { self.new.lower_signs ≡ self.old.upper_signs }
         ensures clear { self.new.lower_clear ≡ self.old.upper_clear }
         ensures kept { self.new.kept_below ≡ self.old.kept }
     {
+        swap(&mut self.below_signs, &mut self.lower_signs);
         swap(&mut self.lower_signs, &mut self.upper_signs);
         swap(&mut self.lower_clear, &mut self.upper_clear);
         swap(&mut self.kept_below, &mut self.kept);
     }
+}
+
+// A plane with a row for each row of samples of a slice.
+pub(crate) fn new_samples(alloc: Global, rows: &GridRows) -> Result<BitPlane, Memory>
+    requires { HasFewSamples rows.now }
+    ensures plane { IfOk result (λ plane. IsNewPlane (sample_rows rows.now) rows.now.words plane) }
+{
+    BitPlane::new(alloc, rows.sample_rows(), rows.words)
+}
+
+// A plane with a row for each row of cubes of a layer, and a border.
+pub(crate) fn new_cubes(alloc: Global, rows: &GridRows) -> Result<BitPlane, Memory>
+    requires { HasFewSamples rows.now }
+    ensures plane { IfOk result (λ plane. IsNewPlane (bordered_rows rows.now) rows.now.words plane) }
+{
+    BitPlane::new(alloc, rows.bordered_rows(), rows.words)
 }
