@@ -1,0 +1,7 @@
+pub mod ListsPlaceByPlace
+pub mod CrossedEnds
+pub mod PlacesOfWords
+pub mod WordVertices
+pub mod RowsOfVertices
+pub mod RowsInGrids
+pub mod PlanesOfVertices

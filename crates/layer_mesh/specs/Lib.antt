@@ -1,0 +1,2 @@
+pub mod RowVertices
+pub mod PlaneVertices
