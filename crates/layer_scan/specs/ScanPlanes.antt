@@ -58,6 +58,18 @@ pub record HasPlanes (scan : LayerPlanes) : Type 0 where
 abbrev pub IsSameScan : LayerPlanes → LayerPlanes → Type 0
 IsSameScan old new = (new.rows ≡ old.rows) × (new.iso ≡ old.iso) × (new.blank ≡ old.blank)
 
+-- the slices and the layers have moved on by one: what was above is below now, and what stood below is left to be written
+abbrev pub IsMovedOn : LayerPlanes → LayerPlanes → Type 0
+IsMovedOn old new = new ≡ record old {
+  below_signs = old.lower_signs;
+  lower_signs = old.upper_signs;
+  upper_signs = old.below_signs;
+  lower_clear = old.upper_clear;
+  upper_clear = old.lower_clear;
+  kept_below = old.kept;
+  kept = old.kept_below;
+}
+
 -- a scan of a grid that has these rows, at this isovalue, with this blank value, has met nothing: no cube is kept below
 pub record IsNewScan (rows : GridRows) (iso : ℤ) (blank : Option ℤ) (scan : LayerPlanes) : Type 0 where
   pub planes : HasPlanes scan

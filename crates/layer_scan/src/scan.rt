@@ -5,7 +5,8 @@ ghost use Rattle.bit_rows.specs.SampleRows.{is_above, is_clear_at};
 ghost use Rattle.grid_rows.specs.RowNumbers.{bordered_rows, cube_rows, sample_rows};
 ghost use Rattle.layer_scan.specs.CubePlanes.{AreCubeBits, AreEither, every_at};
 ghost use Rattle.layer_scan.specs.FlaggedCubes.{flag_at};
-ghost use Rattle.layer_scan.specs.ScanPlanes.{HasFewSamples, HasPlanes, IsNewPlane, IsNewScan, IsSameScan};
+ghost use Rattle.layer_scan.specs.ScanPlanes.{HasFewSamples, HasPlanes, IsMovedOn, IsNewPlane};
+ghost use Rattle.layer_scan.specs.ScanPlanes.{IsNewScan, IsSameScan};
 ghost use Rattle.layer_scan.specs.SlicePlanes.{AreSampleBits};
 
 use crate::flags::write_flags;
@@ -73,8 +74,10 @@ impl LayerPlanes {
         ensures same { IsSameScan self.old self.new }
         ensures signs { AreSampleBits self.old.rows (is_above self.old.iso) slice.now self.new.lower_signs }
         ensures clear { AreSampleBits self.old.rows (is_clear_at self.old.blank) slice.now self.new.lower_clear }
-        ensures kept_below { self.new.kept_below ≡ self.old.kept_below }
-        ensures below { self.new.below_signs ≡ self.old.below_signs }
+        ensures rest { self.new ≡ record self.old {
+          lower_signs = self.new.lower_signs;
+          lower_clear = self.new.lower_clear;
+        } }
     {
         write_signs(&mut self.lower_signs, &self.rows, slice, self.iso);
         write_clear(&mut self.lower_clear, &self.rows, slice, self.blank);
@@ -87,9 +90,7 @@ impl LayerPlanes {
         ensures planes { HasPlanes self.new }
         ensures same { IsSameScan self.old self.new }
         ensures kept_below { AreCubeBits self.old.rows (flag_at self.old.rows flags.now) self.new.kept_below }
-        ensures signs { self.new.lower_signs ≡ self.old.lower_signs }
-        ensures clear { self.new.lower_clear ≡ self.old.lower_clear }
-        ensures below { self.new.below_signs ≡ self.old.below_signs }
+        ensures rest { self.new ≡ record self.old { kept_below = self.new.kept_below } }
     {
         write_flags(&mut self.kept_below, &self.rows, flags);
     }
@@ -100,15 +101,17 @@ impl LayerPlanes {
         requires upper { length upper.now ≡ sample_rows self.old.rows * self.old.rows.length }
         ensures planes { HasPlanes self.new }
         ensures same { IsSameScan self.old self.new }
-        ensures below { self.new.below_signs ≡ self.old.below_signs }
-        ensures lower_signs { self.new.lower_signs ≡ self.old.lower_signs }
-        ensures lower_clear { self.new.lower_clear ≡ self.old.lower_clear }
-        ensures kept_below { self.new.kept_below ≡ self.old.kept_below }
         ensures signs { AreSampleBits self.old.rows (is_above self.old.iso) upper.now self.new.upper_signs }
         ensures clear { AreSampleBits self.old.rows (is_clear_at self.old.blank) upper.now self.new.upper_clear }
         ensures kept { AreCubeBits self.old.rows (every_at self.old.lower_clear self.new.upper_clear self.old.rows)
             self.new.kept }
         ensures around { AreEither (bordered_rows self.old.rows) self.old.kept_below self.new.kept self.new.around }
+        ensures rest { self.new ≡ record self.old {
+          upper_signs = self.new.upper_signs;
+          upper_clear = self.new.upper_clear;
+          kept = self.new.kept;
+          around = self.new.around;
+        } }
     {
         write_signs(&mut self.upper_signs, &self.rows, upper, self.iso);
         write_clear(&mut self.upper_clear, &self.rows, upper, self.blank);
@@ -126,10 +129,7 @@ impl LayerPlanes {
         requires planes { HasPlanes self.old }
         ensures planes { HasPlanes self.new }
         ensures same { IsSameScan self.old self.new }
-        ensures below { self.new.below_signs ≡ self.old.lower_signs }
-        ensures signs { self.new.lower_signs ≡ self.old.upper_signs }
-        ensures clear { self.new.lower_clear ≡ self.old.upper_clear }
-        ensures kept { self.new.kept_below ≡ self.old.kept }
+        ensures moved { IsMovedOn self.old self.new }
     {
         swap(&mut self.below_signs, &mut self.lower_signs);
         swap(&mut self.lower_signs, &mut self.upper_signs);
