@@ -8,3 +8,4 @@ pub mod CentreSums
 pub mod SliceRows
 pub mod ScanRoom
 pub mod ScanPlanes
+pub mod NumberRoom

@@ -3,7 +3,8 @@ use Rattle.std.proofs.Common.{arith}
 use Rattle.std.proofs.Math.Nat.{mul-le-mul, mul-le-mul_left, mul-le-mul_right}
 use Rattle.std.specs.Prelude.{ℕ, ◌*◌, ◌+◌, ◌<◌, ◌≤◌, ◌^◌}
 use Rattle.grid_rows.specs.declared.grids.GridRows.{GridRows}
-use Rattle.grid_rows.specs.RowNumbers.{bordered_rows, sample_rows}
+use Rattle.grid_rows.specs.MiddleAxes.{edge_span}
+use Rattle.grid_rows.specs.RowNumbers.{bordered_rows, cube_rows, edge_rows, sample_rows}
 use Rattle.layer_scan.specs.ScanPlanes.{HasFewSamples}
 
 -- so many rows for each row of samples have few words
@@ -33,3 +34,20 @@ few_row_words rows few =
     let some : 1 ≤ sample_rows rows = mul-le-mul rows.few.0.0 rows.few.1.0 in
     let fewer : rows.length * 1 ≤ rows.length * sample_rows rows = mul-le-mul_left rows.length some in
     omega (arith, few.words, few.few, fewer)
+
+pub few_edge_rows : (rows : GridRows) → edge_rows rows ≤ 4 * sample_rows rows
+few_edge_rows rows =
+    let second : edge_span rows.second ≤ 2 * rows.second.samples = omega arith in
+    let third : edge_span rows.third ≤ 2 * rows.third.samples = omega arith in
+    omega (arith, mul-le-mul second third)
+
+pub edge_words : (rows : GridRows) → HasFewSamples rows → edge_rows rows * rows.words < 2 ^ 40
+edge_words rows few = let words = few_words rows (edge_rows rows) 4 few (few_edge_rows rows) in omega (arith, words)
+
+pub cube_words : (rows : GridRows) → HasFewSamples rows → 2 * cube_rows rows * rows.words < 2 ^ 40
+cube_words rows few =
+    let second : rows.second.cubes ≤ rows.second.samples = omega (arith, rows.few.0.2) in
+    let third : rows.third.cubes ≤ rows.third.samples = omega (arith, rows.few.1.2) in
+    let fewer : cube_rows rows ≤ sample_rows rows = mul-le-mul second third in
+    let words = few_words rows (2 * cube_rows rows) 2 few (omega (arith, fewer)) in
+    omega (arith, words)

@@ -8,3 +8,4 @@ pub mod Centres
 pub mod SlicePlanes
 pub mod FlaggedCubes
 pub mod ScanPlanes
+pub mod ScanEdges

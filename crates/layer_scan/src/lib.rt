@@ -10,6 +10,7 @@
 mod centre_numbers;
 mod centres;
 mod corners;
+mod edges;
 mod flags;
 mod kept;
 mod kinds;
@@ -18,4 +19,5 @@ mod rows;
 mod scan;
 mod slices;
 
+pub use edges::LayerEdges;
 pub use scan::LayerPlanes;

@@ -139,7 +139,7 @@ impl LayerPlanes {
 }
 
 // A plane with a row for each row of samples of a slice.
-pub(crate) fn new_samples(alloc: Global, rows: &GridRows) -> Result<BitPlane, Memory>
+fn new_samples(alloc: Global, rows: &GridRows) -> Result<BitPlane, Memory>
     requires { HasFewSamples rows.now }
     ensures plane { IfOk result (λ plane. IsNewPlane (sample_rows rows.now) rows.now.words plane) }
 {
