@@ -142,8 +142,10 @@ pub centres_counted : (rows : GridRows) (centres corners kept : BitPlane) (count
     ≤ count + 2 * cube_rows rows * (2 * rows.length)
 centres_counted rows centres corners kept count below =
     few_numbers (centre_firsts rows centres corners kept) (centre_seconds rows centres corners kept) rows.words count rows.length (2 * cube_rows rows)
-    (λ m x h is. centre_below rows kept m x (differ (row_bit (bit_row centres (with_border rows (m / 2))) x) (row_bit (bit_row corners (upper_half m)) x)) h below is)
-    (λ m x h is. centre_below rows kept m x (differ (row_bit (bit_row centres (with_border rows (m / 2))) x) (row_bit (bit_row corners (upper_half m)) (x + 1))) h below is)
+    (λ m x h is. centre_below rows kept m x (ends m x x) h below is) (λ m x h is. centre_below rows kept m x (ends m x (x + 1)) h below is)
+  where
+    ends : (m x y : ℕ) → Bool
+    ends m x y = differ (row_bit (bit_row centres (with_border rows (m / 2))) x) (row_bit (bit_row corners (upper_half m)) y)
 
 -- ---- room for the numbers
 

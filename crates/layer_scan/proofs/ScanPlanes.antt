@@ -95,7 +95,8 @@ every_below rows lower upper c x below h is =
     let first : ℕ = slice_index (corner_rows rows c) 0 in
     let low : List ℕ = bit_row lower first in
     let high : List ℕ = bit_row upper first in
-    let four : all_four low high x ≡ true = AllPass-from_list_all (λ n. all_four (bit_row lower n) (bit_row upper n) x) (corner_rows rows c) is 0 0 (omega arith) in
+    let four : all_four low high x ≡ true =
+    AllPass-from_list_all (λ n. all_four (bit_row lower n) (bit_row upper n) x) (corner_rows rows c) is 0 0 (omega arith) in
     let pair = and_left (row_bit low x && row_bit low (x + 1)) (row_bit high x && row_bit high (x + 1)) four in
     let next = below first (x + 1) (sample_row_there rows c h) (and_right (row_bit low x) (row_bit low (x + 1)) pair) in
     omega (arith, next)

@@ -30,7 +30,8 @@ pub struct LayerEdges {
     pub lower: EdgePlane,
     /// The edges of the layer that go from its lower slice to its upper one.
     pub upright: EdgePlane,
-    /// In pyramids, the signs of the centres of the layer, and the edges between them and its lower and its upper slice.
+    /// In pyramids, the signs of the centres of the layer, and the edges between them and its lower and its upper
+    /// slice.
     pub centres: BitPlane,
     pub to_lower: EdgePlane,
     pub to_upper: EdgePlane,

@@ -24,8 +24,8 @@ pub struct LayerPlanes {
     pub rows: GridRows,
     pub iso: i64,
     pub blank: Option<i64>,
-    /// The signs of the samples of the slice below the lower one, and of the two slices, and which of the samples of the
-    /// two are not blank.
+    /// The signs of the samples of the slice below the lower one, and of the two slices, and which of the samples of
+    /// the two are not blank.
     pub below_signs: BitPlane,
     pub lower_signs: BitPlane,
     pub upper_signs: BitPlane,
