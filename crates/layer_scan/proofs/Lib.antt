@@ -9,3 +9,4 @@ pub mod SliceRows
 pub mod ScanRoom
 pub mod ScanPlanes
 pub mod NumberRoom
+pub mod GridSlices

@@ -9,3 +9,4 @@ pub mod SlicePlanes
 pub mod FlaggedCubes
 pub mod ScanPlanes
 pub mod ScanEdges
+pub mod GridPlanes

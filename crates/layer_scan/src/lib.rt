@@ -14,10 +14,12 @@ mod edges;
 mod flags;
 mod kept;
 mod kinds;
+mod law;
 mod numbers;
 mod rows;
 mod scan;
 mod slices;
 
 pub use edges::LayerEdges;
+pub use law::scan_law;
 pub use scan::LayerPlanes;
