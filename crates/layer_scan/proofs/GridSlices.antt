@@ -91,7 +91,7 @@ all_slices rows (a ∷ b ∷ c ∷ d ∷ []) few most is =
     turned ∙ sym (all_in rows b c a d (ap (λ (m : MiddleAxis). m.samples) is.second) (ap (λ (m : MiddleAxis). m.samples) is.third) is.first)
 all_slices rows (a ∷ b ∷ c ∷ d ∷ e ∷ more) few most is = absurd (omega (arith, most))
 
-axes_within : (kind : Kind) (d : ℕ) → HasDimension kind d → (2 ≤ d) × (d ≤ 4)
+pub axes_within : (kind : Kind) (d : ℕ) → HasDimension kind d → (2 ≤ d) × (d ≤ 4)
 axes_within Cube d is = is
 axes_within Simplex d is = is
 axes_within Pyramid d is = (omega (arith, is), omega (arith, is))

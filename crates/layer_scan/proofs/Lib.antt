@@ -10,3 +10,6 @@ pub mod ScanRoom
 pub mod ScanPlanes
 pub mod NumberRoom
 pub mod GridSlices
+pub mod GridCubes
+pub mod GridKept
+pub mod KeptAtSlices

@@ -14,7 +14,7 @@ use Rattle.grid_rows.proofs.PlaneRows.{kept_rows}
 use Rattle.layer_scan.specs.Corners.{HaveCorners}
 use Rattle.layer_scan.specs.CubePlanes.{HasRows, KeepsBorder, with_border}
 
-left_positive : (c n m : ℕ) → c < n * m → 0 < n
+pub left_positive : (c n m : ℕ) → c < n * m → 0 < n
 left_positive c zero m h = absurd (omega arith)
 left_positive c (suc n) m h = omega arith
 

@@ -1,14 +1,18 @@
 -- What the planes of a scan tell of a grid.
-use Rattle.std.specs.Prelude.{ℕ, ◌+◌, ◌*◌, ◌-◌, ◌<◌, ◌≡◌, List, [], ◌∷◌, ◌++◌, ℤ, length, slice_index, slice_range, take}
+use Rattle.std.specs.Prelude.{ℕ, ◌+◌, ◌*◌, ◌-◌, ◌<◌, ◌≤◌, ◌≡◌, List, [], ◌∷◌, ◌++◌, ℤ, length, map, slice_index, slice_range, take}
+use Rattle.iso_model.specs.Cells.{HasDimension}
 use Rattle.iso_model.specs.Values.{IsRegularVolume, Volume}
 use Rattle.bit_rows.specs.Rows.{row_bit}
 use Rattle.bit_rows.specs.SampleRows.{is_above}
 use Rattle.grid_rows.specs.declared.grids.GridRows.{GridRows}
 use Rattle.grid_rows.specs.declared.planes.BitPlane.{BitPlane}
-use Rattle.grid_rows.specs.MiddleAxes.{axis_of}
+use Rattle.grid_rows.specs.MiddleAxes.{axis_of, edge_span}
 use Rattle.grid_rows.specs.Planes.{bit_row}
-use Rattle.grid_rows.specs.RowNumbers.{sample_row, sample_rows}
-use Rattle.edge_middles.specs.WhatIsThere.{is_above_at}
+use Rattle.grid_rows.specs.RowNumbers.{bordered, bordered_rows, cubes_around, sample_row, sample_rows}
+use Rattle.edge_middles.specs.WhatIsThere.{is_above_at, is_kept_around, is_kept_at}
+use Rattle.layer_scan.specs.CubePlanes.{AreEither}
+use Rattle.layer_scan.specs.RowsOfEdges.{around}
+use Rattle.layer_scan.specs.ScanPlanes.{HasClearBorder, HasNoBit}
 use Rattle.layer_scan.specs.SlicePlanes.{AreSampleBits}
 
 -- the rows are those of a grid of these sizes
@@ -34,3 +38,33 @@ TellsSigns v rows s plane = (i j x : ℕ) → i < rows.second.samples → j < ro
 abbrev pub HasSignsOfSlice : Volume → GridRows → ℕ → BitPlane → Type 0
 HasSignsOfSlice v rows s plane = IsRegularVolume v → AreRowsOf v.sizes rows → s < slice_index v.sizes (length v.sizes - 1)
     → AreSampleBits rows (is_above v.iso) (slice_of rows v.samples s) plane → TellsSigns v rows s plane
+
+-- ---- kept cubes
+
+-- a plane tells of each cube of layer s whether it is kept, and has no bit in its border
+pub record TellsKept (v : Volume) (rows : GridRows) (s : ℕ) (plane : BitPlane) : Type 0 where
+  pub clear : HasClearBorder rows plane
+  pub cubes : (i j x : ℕ) → i < rows.second.cubes → j < rows.third.cubes
+      → row_bit (bit_row plane (bordered rows (i + 1) (j + 1))) x ≡ is_kept_at v (x ∷ after_first (length v.sizes) i j s)
+
+-- around the rows of edges from slice s to the next one, of the cubes at x one is kept where the plane of layer s says so
+abbrev pub IsKeptUpright : Volume → GridRows → ℕ → BitPlane → Type 0
+IsKeptUpright v rows s plane = HasDimension v.kind (length v.sizes) → AreRowsOf v.sizes rows → TellsKept v rows s plane
+    → (i j x : ℕ) → i < edge_span rows.second → j < edge_span rows.third
+    → around (map (bit_row plane) (cubes_around rows i j)) x ≡ is_kept_around v (after_first (length v.sizes) (2 * i) (2 * j) (4 * s + 2)) x
+
+-- a plane tells which cubes below slice s are kept: none below the first slice, and else those of the layer below
+abbrev pub TellsBelow : Volume → GridRows → ℕ → BitPlane → Type 0
+TellsBelow v rows s plane = (s ≡ 0 → HasNoBit (bordered_rows rows) plane) × (1 ≤ s → TellsKept v rows (s - 1) plane)
+
+-- around the rows of edges in a slice, of the cubes at x one is kept where the planes of the layers below and above it say so
+abbrev pub IsKeptAtSlice : Volume → GridRows → ℕ → BitPlane → BitPlane → BitPlane → Type 0
+IsKeptAtSlice v rows s below above plane = HasDimension v.kind (length v.sizes) → AreRowsOf v.sizes rows → TellsBelow v rows s below
+    → TellsKept v rows s above → AreEither (bordered_rows rows) below above plane → (i j x : ℕ) → i < edge_span rows.second → j < edge_span rows.third
+    → around (map (bit_row plane) (cubes_around rows i j)) x ≡ is_kept_around v (after_first (length v.sizes) (2 * i) (2 * j) (4 * s)) x
+
+-- around those of the last slice, where the plane of the layer below it says so
+abbrev pub IsKeptAtLast : Volume → GridRows → ℕ → BitPlane → Type 0
+IsKeptAtLast v rows s below = HasDimension v.kind (length v.sizes) → AreRowsOf v.sizes rows → s + 1 ≡ slice_index v.sizes (length v.sizes - 1)
+    → TellsBelow v rows s below → (i j x : ℕ) → i < edge_span rows.second → j < edge_span rows.third
+    → around (map (bit_row below) (cubes_around rows i j)) x ≡ is_kept_around v (after_first (length v.sizes) (2 * i) (2 * j) (4 * s)) x
