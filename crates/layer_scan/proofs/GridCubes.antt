@@ -134,8 +134,12 @@ told_around rows plane x test i j tells h k =
     let far : j / 2 + 1 ≤ rows.third.samples = omega (arith, k) in
     let bit = λ (a b : ℕ). row_bit (bit_row plane (bordered rows a b)) x in
     let is = λ (a b : ℕ). with_first (λ p. with_first (test p) b) a in
-    ap (λ t. t || (bit (i / 2 + 1) (upper_half j) || (bit (upper_half i) (j / 2 + 1) || (bit (i / 2 + 1) (j / 2 + 1) || false)))) (at (upper_half i) (upper_half j) u near)
-    ∙ ap (λ t. is (upper_half i) (upper_half j) || (t || (bit (upper_half i) (j / 2 + 1) || (bit (i / 2 + 1) (j / 2 + 1) || false)))) (at (i / 2 + 1) (upper_half j) l near)
-    ∙ ap (λ t. is (upper_half i) (upper_half j) || (is (i / 2 + 1) (upper_half j) || (t || (bit (i / 2 + 1) (j / 2 + 1) || false)))) (at (upper_half i) (j / 2 + 1) u far)
-    ∙ ap (λ t. is (upper_half i) (upper_half j) || (is (i / 2 + 1) (upper_half j) || (is (upper_half i) (j / 2 + 1) || (t || false)))) (at (i / 2 + 1) (j / 2 + 1) l far)
+    let low : ℕ = upper_half i in
+    let high : ℕ = i / 2 + 1 in
+    let first : ℕ = upper_half j in
+    let last : ℕ = j / 2 + 1 in
+    ap (λ t. t || (bit high first || (bit low last || (bit high last || false)))) (at low first u near)
+    ∙ ap (λ t. is low first || (t || (bit low last || (bit high last || false)))) (at high first l near)
+    ∙ ap (λ t. is low first || (is high first || (t || (bit high last || false)))) (at low last u far)
+    ∙ ap (λ t. is low first || (is high first || (is low last || (t || false)))) (at high last l far)
     ∙ four_sides test i j
