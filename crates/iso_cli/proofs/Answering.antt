@@ -9,7 +9,7 @@ use Rattle.iso_base.specs.declared.outside.Failed.{Failed}
 use Rattle.iso_base.specs.Files.{Files, bytes_of}
 use Rattle.iso_base.specs.Fronts.{AppendsFront}
 use Rattle.iso_formats.specs.Commands.{AreRight, Command, IsWrongWord, Say, generate_command, check_command, extract_command, demo_command}
-use Rattle.iso_formats.specs.Commands.{convert_command}
+use Rattle.iso_formats.specs.Commands.{convert_command, audit_command}
 use Rattle.iso_words.specs.Built.{is_built}
 use Rattle.iso_words.proofs.WrongLemmas.{Say-one}
 use Rattle.iso_cli.specs.declared.status.Status.{Status}
@@ -20,6 +20,7 @@ use Rattle.iso_cli.specs.Runs.{files_named}
 use Rattle.iso_cli.specs.Outputs.{BlamesOutput}
 use Rattle.iso_cli.specs.Statuses.{IsDecided, IsDoneOrMemory, IsUsage}
 use Rattle.iso_cli.specs.StatusLines.{status_line}
+use Rattle.iso_cli.proofs.Auditing.{not_refused_audit}
 use Rattle.iso_cli.proofs.Excluding.{not_refused_check, not_refused_file, not_refused_mesh}
 
 -- ---- the files
@@ -98,6 +99,7 @@ all_there files (extract_command table grid iso) there (inl lacks) = some_none f
 all_there files (extract_command table grid iso) there (inr lacks) = some_none files grid there.1.0 lacks.2
 all_there files (demo_command kind d size seed) there lacks = lacks
 all_there files (convert_command table) there lacks = some_none files table there.0 lacks
+all_there files (audit_command mesh) there lacks = some_none files mesh there.0 lacks
 
 -- a shelf that serves well is not blamed
 not_blamed : {S : Type 0} (faults : S → ℕ) (files : S → Option Files) (sound : S → Type 0) (words : List (List ℕ)) (count : ℕ) (old new : S)
@@ -132,6 +134,10 @@ complete faults files sound words (Statuses.GridLarge count) old new before now 
     absurd (may.1 (Statuses.GridLarge count) tt true_of)
 complete faults files sound words (Statuses.Unfit table grid) old new before now true_of leaves blames never serves may =
     absurd (may.1 (Statuses.Unfit table grid) tt true_of)
+complete faults files sound words (Statuses.MeshForm cause) old new before now true_of leaves blames never serves may =
+    absurd (may.1 (Statuses.MeshForm cause) tt true_of)
+complete faults files sound words (Statuses.AuditFault finding) old new before now true_of leaves blames never serves may =
+    absurd (may.1 (Statuses.AuditFault finding) tt true_of)
 
 -- files that hold what a command needs are not refused
 not_refused : (files : Option Files) (command : Command) (status : Status) → IsSome files → HoldNeeded files command
@@ -143,6 +149,7 @@ not_refused (Some files) (extract_command table grid iso) status told holds refu
     not_refused_mesh files table grid holds.0 holds.1 status holds.2 refused
 not_refused (Some files) (demo_command kind d size seed) status told holds refused = holds
 not_refused (Some files) (convert_command table) status told holds refused = not_refused_file files table holds.0 status holds.1 refused
+not_refused (Some files) (audit_command mesh) status told holds refused = not_refused_audit files mesh holds.0 status holds.1 refused
 
 pub decided_answer : (files : Option Files) (words : List (List ℕ)) (status : Status) → IsDecided status → IsTrueAnswer files words status
     → SayBuilt words (IsTrueOf files status)

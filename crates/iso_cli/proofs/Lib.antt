@@ -4,6 +4,7 @@ pub mod Interrupting
 pub mod Accepting
 pub mod Putting
 pub mod Excluding
+pub mod Auditing
 pub mod Answering
 pub mod OneRefusal
 pub mod TextSurfaces

@@ -5,7 +5,8 @@ use Rattle.iso_base.specs.Files.{Files}
 use Rattle.iso_model.specs.Acceptance.{IsRefusedAt}
 use Rattle.iso_model.specs.Tables.{Table}
 use Rattle.iso_formats.specs.Commands.{Command, IsWrongWord}
-use Rattle.iso_formats.specs.Commands.{generate_command, check_command, extract_command, demo_command, convert_command}
+use Rattle.iso_formats.specs.Commands.{generate_command, check_command, extract_command, demo_command}
+use Rattle.iso_formats.specs.Commands.{convert_command, audit_command}
 use Rattle.iso_formats.specs.GridFaults.{GridFault, HasHeaderFault, HasSampleFault, lines_fault}
 use Rattle.iso_formats.specs.GridFaults.{cut_off, no_magic, of_lines, overlong, too_many, unended}
 use Rattle.iso_formats.specs.GridFaults as fault
@@ -19,12 +20,14 @@ use Rattle.iso_words.specs.Built.{is_built}
 use Rattle.iso_words.proofs.WrongLemmas.{IsWrongWord-one, Say-one, never_said}
 use Rattle.iso_cli.specs.declared.status.Status.{Status}
 use Rattle.iso_cli.specs.declared.status.Status.TheVariants as Statuses
+use Rattle.iso_cli.specs.Audits.{IsRefusedAudit}
 use Rattle.iso_cli.specs.OneAnswer.{HaveOneAnswer, LackWhereRefused}
 use Rattle.iso_cli.specs.Refusals.{IsFileOf, IsRefusedByRule, IsRefusedForm, IsRefusedGrid, IsRefusedMesh, IsRefusedTable}
 use Rattle.iso_cli.specs.Refusals.{by_form, by_grid, by_rule, by_table, grid_refusal, no_header, no_samples, no_table, not_accepted, table_refusal, too_long, unfit}
 use Rattle.iso_cli.specs.Runs.{AreRefused, IsTrueAnswer}
 use Rattle.iso_cli.specs.Statuses.{IsUsage}
 use Rattle.iso_cli.proofs.Answering.{answerable, decided_answer}
+use Rattle.iso_cli.proofs.Auditing.{one_audit_refusal}
 use Rattle.iso_cli.proofs.Excluding.{both_have, not_refused_check, not_refused_form, one_head}
 
 -- ---- tables
@@ -157,6 +160,9 @@ one_refusal files (demo_command kind d size seed) a b p q = absurd p
 one_refusal files (convert_command table) a b p q =
     let both = both_have files table (λ bytes. IsRefusedForm bytes a) (λ bytes. IsRefusedForm bytes b) p q in
     one_form both.0 a b both.1 both.2
+one_refusal files (audit_command mesh) a b p q =
+    let both = both_have files mesh (λ bytes. IsRefusedAudit bytes a) (λ bytes. IsRefusedAudit bytes b) p q in
+    one_audit_refusal both.0 a b both.1 both.2
 
 -- ---- the words
 

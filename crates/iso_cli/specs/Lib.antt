@@ -6,6 +6,7 @@ pub mod Shelves
 pub mod Refusals
 pub mod Rests
 pub mod Outputs
+pub mod Audits
 pub mod Meanings
 pub mod Runs
 pub mod OneAnswer

@@ -1,10 +1,12 @@
 -- What each command means: a new command adds its lines at the end, and changes none.
 use Rattle.std.specs.Prelude.{◌≡◌, ℕ, List, [], ◌∷◌, Option, None, ⊤}
 use Rattle.iso_base.specs.Files.{Files, bytes_of}
-use Rattle.iso_formats.specs.Commands.{Command, generate_command, check_command, extract_command, demo_command, convert_command}
+use Rattle.iso_formats.specs.Commands.{Command, generate_command, check_command, extract_command, demo_command}
+use Rattle.iso_formats.specs.Commands.{convert_command, audit_command}
 use Rattle.iso_model.specs.Tables.{Table}
 use Rattle.iso_model.specs.Values.{Grid}
 use Rattle.iso_cli.specs.declared.status.Status.{Status}
+use Rattle.iso_cli.specs.Audits.{HoldsGlued, IsCleanLine, IsRefusedAudit, LeavesOff}
 use Rattle.iso_cli.specs.Outputs.{IsAcceptance, IsConverted, IsGenerated, IsMeshText}
 use Rattle.iso_cli.specs.Refusals.{HoldBoth, HoldsAccepted, HoldsTable, IsRefusedFile, IsRefusedForm, IsRefusedMesh, IsRefusedTable, LacksMeshFile}
 use Rattle.iso_cli.specs.Rests.{LeavesMeshFile, LeavesTableFile}
@@ -72,4 +74,13 @@ meaning (convert_command table) = record {
   leaves = λ files status rest. LeavesTableFile files table rest status;
   lacks = λ files. bytes_of files table ≡ None;
   puts = λ files text. IsConverted files table text;
+}
+-- the line for a mesh of anybody whose simplices are glued
+meaning (audit_command mesh) = record {
+  reads = mesh ∷ [];
+  needs = λ files. (boundary : ℕ) × HoldsGlued files mesh boundary;
+  refuses = λ files status. IsRefusedFile files mesh IsRefusedAudit status;
+  leaves = λ files status rest. LeavesOff files mesh rest status;
+  lacks = λ files. bytes_of files mesh ≡ None;
+  puts = λ files text. IsCleanLine files mesh text;
 }

@@ -1,11 +1,14 @@
--- The statuses that stand for faults of tables and grids.
+-- The statuses that stand for faults of tables, grids and meshes.
 use Rattle.iso_cli.specs.declared.status.Status.{Status}
 use Rattle.iso_cli.specs.declared.status.Status.TheVariants as Statuses
 use Rattle.iso_cli.specs.declared.status.TableForm.TheVariants as Forms
 use Rattle.iso_cli.specs.declared.status.TableCause.TheVariants as TableCauses
 use Rattle.iso_cli.specs.declared.status.GridCause.TheVariants as GridCauses
+use Rattle.iso_cli.specs.declared.status.OffCause.TheVariants as OffCauses
 use Rattle.nrrd_raw.specs.declared.faults.GridFault.{GridFault}
 use Rattle.nrrd_raw.specs.declared.faults.GridFault.TheVariants as GridFaults
+use Rattle.off_read.specs.declared.faults.OffFault.{OffFault}
+use Rattle.off_read.specs.declared.faults.OffFault.TheVariants as OffFaults
 use Rattle.table_file.specs.declared.faults.TableFault.{TableFault}
 use Rattle.table_file.specs.declared.faults.TableFault.TheVariants as TableFaults
 
@@ -40,3 +43,16 @@ grid_status (GridFaults.DataShort count) = Statuses.GridForm (GridCauses.DataSho
 grid_status GridFaults.Trailing = Statuses.GridForm GridCauses.Trailing
 grid_status (GridFaults.Shelf count) = Statuses.ShelfFault count
 grid_status GridFaults.Memory = Statuses.Memory
+
+-- the status of a fault of a mesh file
+abbrev pub off_status : OffFault → Status
+off_status OffFaults.Long = Statuses.MeshForm OffCauses.Long
+off_status (OffFaults.Header line) = Statuses.MeshForm (OffCauses.Header line)
+off_status (OffFaults.Count line) = Statuses.MeshForm (OffCauses.Count line)
+off_status (OffFaults.Coordinate line) = Statuses.MeshForm (OffCauses.Coordinate line)
+off_status (OffFaults.FaceSize line) = Statuses.MeshForm (OffCauses.FaceSize line)
+off_status (OffFaults.Index line) = Statuses.MeshForm (OffCauses.Index line)
+off_status (OffFaults.Extra line) = Statuses.MeshForm (OffCauses.Extra line)
+off_status (OffFaults.Short lines) = Statuses.MeshForm (OffCauses.Short lines)
+off_status (OffFaults.Shelf count) = Statuses.ShelfFault count
+off_status OffFaults.Memory = Statuses.Memory

@@ -1,8 +1,10 @@
 -- The exit code and the line of each status.
-use Rattle.std.specs.Prelude.{ℕ, List, [], ◌∷◌, ◌++◌, codes}
-use Rattle.std.specs.Fmt.{decimal}
+use Rattle.std.specs.Prelude.{ℕ, ℤ, List, [], ◌∷◌, ◌++◌, codes}
+use Rattle.std.specs.Fmt.{decimal, signed_decimal}
 use Rattle.iso_formats.specs.declared.Field.{Field}
 use Rattle.iso_formats.specs.declared.Field.TheVariants as Fields
+use Rattle.mesh_audit.specs.declared.findings.Finding.{Finding}
+use Rattle.mesh_audit.specs.declared.findings.Finding.TheVariants as Findings
 use Rattle.iso_cli.specs.declared.status.Status.{Status}
 use Rattle.iso_cli.specs.declared.status.Status.TheVariants as Statuses
 use Rattle.iso_cli.specs.declared.status.TableForm.{TableForm}
@@ -11,6 +13,8 @@ use Rattle.iso_cli.specs.declared.status.TableCause.{TableCause}
 use Rattle.iso_cli.specs.declared.status.TableCause.TheVariants as TableCauses
 use Rattle.iso_cli.specs.declared.status.GridCause.{GridCause}
 use Rattle.iso_cli.specs.declared.status.GridCause.TheVariants as GridCauses
+use Rattle.iso_cli.specs.declared.status.OffCause.{OffCause}
+use Rattle.iso_cli.specs.declared.status.OffCause.TheVariants as OffCauses
 
 -- the exit code
 abbrev pub status_code : Status → ℕ
@@ -24,6 +28,8 @@ status_code (Statuses.TableRefused label r) = 6
 status_code (Statuses.GridForm cause) = 7
 status_code (Statuses.GridLarge count) = 8
 status_code (Statuses.Unfit table grid) = 9
+status_code (Statuses.AuditFault finding) = 13
+status_code (Statuses.MeshForm cause) = 14
 
 -- a text, and LF
 abbrev pub ended : List ℕ → List ℕ
@@ -74,6 +80,30 @@ grid_line (GridCauses.Missing field) = ended (codes "grid form: missing " ++ fie
 grid_line (GridCauses.DataShort count) = counted (codes "grid form: short ") count
 grid_line GridCauses.Trailing = ended (codes "grid form: trailing")
 
+-- the line of a file that is no mesh
+abbrev pub mesh_line : OffCause → List ℕ
+mesh_line OffCauses.Long = ended (codes "mesh form: long")
+mesh_line (OffCauses.Header line) = counted (codes "mesh form: header ") line
+mesh_line (OffCauses.Count line) = counted (codes "mesh form: count ") line
+mesh_line (OffCauses.Coordinate line) = counted (codes "mesh form: coordinate ") line
+mesh_line (OffCauses.FaceSize line) = counted (codes "mesh form: face size ") line
+mesh_line (OffCauses.Index line) = counted (codes "mesh form: index ") line
+mesh_line (OffCauses.Extra line) = counted (codes "mesh form: extra ") line
+mesh_line (OffCauses.Short lines) = counted (codes "mesh form: short ") lines
+
+-- the line of a face that is not glued: of simplex i without a place, with its count and its sum
+abbrev pub face_line : ℕ → ℕ → ℕ → ℤ → List ℕ
+face_line i place count sum =
+    codes "audit fault: face simplex " ++ decimal i ++ codes " place " ++ decimal place ++ codes " count " ++ decimal count ++ codes " sum "
+    ++ signed_decimal sum ++ 10 ∷ []
+
+-- the line of what is found in a mesh. The first is of no refusal, and is never put
+abbrev pub audit_line : Finding → List ℕ
+audit_line (Findings.Clean boundary) = counted (codes "audit fault: clean ") boundary
+audit_line (Findings.Repeat i) = counted (codes "audit fault: repeat simplex ") i
+audit_line (Findings.Face i place count sum) = face_line i place count sum
+audit_line (Findings.Link vertex) = counted (codes "audit fault: link vertex ") vertex
+
 -- the line on standard error, which ends with LF; after success there is none
 abbrev pub status_line : Status → List ℕ
 status_line Statuses.Done = []
@@ -86,3 +116,5 @@ status_line (Statuses.TableRefused label r) = codes "table refused: label " ++ d
 status_line (Statuses.GridForm cause) = grid_line cause
 status_line (Statuses.GridLarge count) = counted (codes "grid large: ") count
 status_line (Statuses.Unfit table grid) = codes "unfit: table " ++ decimal table ++ codes " grid " ++ decimal grid ++ 10 ∷ []
+status_line (Statuses.MeshForm cause) = mesh_line cause
+status_line (Statuses.AuditFault finding) = audit_line finding

@@ -26,6 +26,8 @@ IsDecided (Statuses.TableRefused label r) = ⊤
 IsDecided (Statuses.GridForm cause) = ⊤
 IsDecided (Statuses.Unfit table grid) = ⊤
 IsDecided (Statuses.GridLarge count) = ⊤
+IsDecided (Statuses.MeshForm cause) = ⊤
+IsDecided (Statuses.AuditFault finding) = ⊤
 IsDecided status = ⊥
 
 -- where the error is a refusal that the bytes of the files decide, this holds of it
@@ -73,7 +75,24 @@ abbrev pub IsOfFiles : Status → Type 0
 IsOfFiles Statuses.Done = ⊥
 IsOfFiles (Statuses.Usage place) = ⊥
 IsOfFiles (Statuses.WriteFault count) = ⊥
+IsOfFiles (Statuses.MeshForm cause) = ⊥
+IsOfFiles (Statuses.AuditFault finding) = ⊥
 IsOfFiles status = ⊤
+
+-- a refusal that reading a mesh may end with
+abbrev pub IsOfMesh : Status → Type 0
+IsOfMesh Statuses.Memory = ⊤
+IsOfMesh (Statuses.ShelfFault count) = ⊤
+IsOfMesh (Statuses.MeshForm cause) = ⊤
+IsOfMesh status = ⊥
+
+-- a refusal that the audit of a mesh may end with
+abbrev pub IsOfAudit : Status → Type 0
+IsOfAudit Statuses.Memory = ⊤
+IsOfAudit (Statuses.ShelfFault count) = ⊤
+IsOfAudit (Statuses.MeshForm cause) = ⊤
+IsOfAudit (Statuses.AuditFault finding) = ⊤
+IsOfAudit status = ⊥
 
 -- how putting the output may end
 abbrev pub IsOfPutting : Status → Type 0

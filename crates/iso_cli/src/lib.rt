@@ -1,6 +1,7 @@
 //! The top call of the program: words, files, and the text that is put.
 #![tactic(auto)]
 
+mod audits;
 mod checked;
 mod files;
 mod laws;
@@ -13,7 +14,7 @@ mod status;
 pub use laws::one_answer_law;
 pub use line::status_text;
 pub use program::run;
-pub use status::{GridCause, Status, TableCause, TableForm};
+pub use status::{GridCause, OffCause, Status, TableCause, TableForm};
 
 #[cfg(test)]
 mod tests;

@@ -3,11 +3,13 @@
 ghost use Rattle.std.specs.Prelude.{◌≡◌, ◌+◌, ◌≤◌, ◌++◌, ◌∷◌, [], length};
 ghost use Rattle.std.specs.Fmt.{decimal};
 ghost use Rattle.iso_cli.specs.StatusLines.{status_line, grid_line, table_line, field_name, table_cause_name};
+ghost use Rattle.iso_cli.specs.StatusLines.{audit_line, face_line, mesh_line};
 
-use crate::status::{GridCause, Status, TableCause, TableForm};
+use crate::status::{GridCause, OffCause, Status, TableCause, TableForm};
 use arrayvec::ArrayString;
 use iso_formats::Field;
 use itoa::Integer;
+use mesh_audit::Finding;
 
 /// The line on standard error, with its line feed; empty for `Done`.
 pub fn status_text(status: &Status) -> ArrayString<128>
@@ -24,6 +26,8 @@ pub fn status_text(status: &Status) -> ArrayString<128>
         Status::GridForm(cause) => grid_text(cause),
         Status::GridLarge(count) => counted("grid large: ", *count),
         Status::Unfit { table, grid } => unfit(*table, *grid),
+        Status::MeshForm(cause) => mesh_text(cause),
+        Status::AuditFault(finding) => audit_text(finding),
     }
 }
 
@@ -37,7 +41,8 @@ fn line(words: &str) -> ArrayString<128>
     text
 }
 
-fn counted<I: Integer>(words: &str, count: I) -> ArrayString<128>
+/// Words, a number, and a line feed.
+pub fn counted<I: Integer>(words: &str, count: I) -> ArrayString<128>
     requires { length words.now + I.MAX_STR_LEN ≤ 127 }
     ensures { result.bytes ≡ words.now ++ I.text count ++ 10 ∷ [] }
 {
@@ -144,6 +149,57 @@ fn unfit(table: u8, grid: u8) -> ArrayString<128>
     text.push_str(" grid ");
     let mut digits = itoa::Buffer::new();
     text.push_str(digits.format(grid));
+    text.push_str("\n");
+    text
+}
+
+fn mesh_text(cause: &OffCause) -> ArrayString<128>
+    ensures { result.bytes ≡ mesh_line cause.now }
+{
+    match cause {
+        OffCause::Long => line("mesh form: long"),
+        OffCause::Header(number) => counted("mesh form: header ", *number),
+        OffCause::Count(number) => counted("mesh form: count ", *number),
+        OffCause::Coordinate(number) => counted("mesh form: coordinate ", *number),
+        OffCause::FaceSize(number) => counted("mesh form: face size ", *number),
+        OffCause::Index(number) => counted("mesh form: index ", *number),
+        OffCause::Extra(number) => counted("mesh form: extra ", *number),
+        OffCause::Short(lines) => counted("mesh form: short ", *lines),
+    }
+}
+
+fn audit_text(finding: &Finding) -> ArrayString<128>
+    ensures { result.bytes ≡ audit_line finding.now }
+{
+    match finding {
+        Finding::Clean { boundary } => counted("audit fault: clean ", *boundary),
+        Finding::Repeat { simplex } => counted("audit fault: repeat simplex ", *simplex),
+        Finding::Face {
+            simplex,
+            place,
+            count,
+            sum,
+        } => face_text(*simplex, *place, *count, *sum),
+        Finding::Link { vertex } => counted("audit fault: link vertex ", *vertex),
+    }
+}
+
+fn face_text(simplex: u32, place: u8, count: u64, sum: i64) -> ArrayString<128>
+    ensures { result.bytes ≡ face_line simplex place count sum }
+{
+    let mut text = ArrayString::new();
+    text.push_str("audit fault: face simplex ");
+    let mut digits = itoa::Buffer::new();
+    text.push_str(digits.format(simplex));
+    text.push_str(" place ");
+    let mut digits = itoa::Buffer::new();
+    text.push_str(digits.format(place));
+    text.push_str(" count ");
+    let mut digits = itoa::Buffer::new();
+    text.push_str(digits.format(count));
+    text.push_str(" sum ");
+    let mut digits = itoa::Buffer::new();
+    text.push_str(digits.format(sum));
     text.push_str("\n");
     text
 }

@@ -5,11 +5,13 @@ ghost use Rattle.iso_model.specs.Cells.{HasDimension};
 ghost use Rattle.iso_model.specs.Values.{IsRegularGrid};
 ghost use Rattle.iso_formats.specs.TableFile2.{table_bytes2};
 ghost use Rattle.table_file.specs.Reading.{table_in};
+ghost use Rattle.iso_cli.specs.Audits.{clean_line};
 ghost use Rattle.iso_cli.specs.Checked.{checked_in};
 ghost use Rattle.iso_cli.specs.Outputs.{IsGenerated, IsPlacedText, LeavesOutput, accepted_line};
 ghost use Rattle.iso_cli.specs.Statuses.{IsOfPutting};
 
 use crate::checked::CheckedTable;
+use crate::line::counted;
 use crate::status::Status;
 use cell_lattice::{Cell, CubeCell, Kind, PyramidCell, SimplexCell};
 use grid_split::Split;
@@ -28,6 +30,15 @@ pub fn put_accepted<O: Sink>(out: &mut O) -> Status
     ensures output { LeavesOutput O.faults O.bytes (λ text. text ≡ accepted_line) result out.old out.new }
 {
     put_bytes(b"accepted\n", out)
+}
+
+/// Puts the line for a mesh whose simplices are glued, with the number of faces that are in one of them alone.
+pub fn put_clean<O: Sink>(boundary: u64, out: &mut O) -> Status
+    ensures kinds { IsOfPutting result }
+    ensures output { LeavesOutput O.faults O.bytes (λ text. text ≡ clean_line boundary) result out.old out.new }
+{
+    let text = counted("clean: boundary ", boundary);
+    put_bytes(text.as_str().as_bytes(), out)
 }
 
 // Puts these bytes.

@@ -2,16 +2,17 @@
 
 ghost use Rattle.std.specs.Prelude.{◌≡◌, ◌^◌, ◌≤◌, IsSome, unsigned_abs};
 ghost use Rattle.iso_base.specs.Faults.{Rose};
-ghost use Rattle.iso_formats.specs.Commands.{check_command, convert_command, extract_command};
+ghost use Rattle.iso_formats.specs.Commands.{audit_command, check_command, convert_command, extract_command};
 ghost use Rattle.iso_words.specs.Built.{EachSaid, texts};
 ghost use Rattle.iso_cli.specs.Outputs.{LeavesOutput};
 ghost use Rattle.iso_cli.specs.Runs.{HoldNeeded, IsAnswerable, IsOutput, IsTrueAnswer, IsTrueOf, LacksFile, SayBuilt};
 ghost use Rattle.iso_cli.specs.Runs.{LeavesRest, LeavesShelf, NeedsNoFile, PutsLine, ServesWell};
 ghost use Rattle.iso_cli.specs.Statuses.{IsDoneOrMemory, IsUsage};
 
+use crate::audits::read_glued;
 use crate::files::{read_both, read_checked, read_table};
 use crate::line::status_text;
-use crate::output::{put_accepted, put_mesh, put_table, put_version_2};
+use crate::output::{put_accepted, put_clean, put_mesh, put_table, put_version_2};
 use crate::status::Status;
 use iso_base::{Shelf, Sink, put_all};
 use iso_words::{Command, WrongWord, parse};
@@ -46,7 +47,7 @@ pub fn run<S: Shelf, O: Sink, E: Sink>(
     ensures output { LeavesOutput O.faults O.bytes
         (λ text. SayBuilt (texts words.now) (IsOutput (S.files shelf.old) text)) result out.old out.new }
     // A table file that is too long is left behind the first byte past the limit, and a grid file that is refused by
-    // its dimension or its size behind its header.
+    // its dimension or its size behind its header. Of a mesh file nothing is left, unless it is too long.
     ensures left { EachSaid (texts words.now) (LeavesRest (S.files shelf.old) result (S.rest shelf.new)) }
     // A command that reads no file, as that which generates a table, leaves the shelf alone.
     ensures generated { NeedsNoFile (texts words.now) result shelf.old shelf.new }
@@ -76,6 +77,7 @@ fn perform<S: Shelf, O: Sink>(alloc: Global, words: &[String], shelf: &mut S, ou
         Ok(Command::Check { table }) => check(alloc, table, shelf, out),
         Ok(Command::Extract { table, grid, iso }) => extract(alloc, table, grid, iso, shelf, out),
         Ok(Command::Convert { table }) => convert(alloc, table, shelf, out),
+        Ok(Command::Audit { mesh }) => audit(alloc, mesh, shelf, out),
         Err(WrongWord(place)) => Status::Usage(place),
     }
 }
@@ -108,6 +110,22 @@ fn convert<S: Shelf, O: Sink>(alloc: Global, table: &str, shelf: &mut S, out: &m
 {
     match read_table(alloc, shelf, table) {
         Ok(table) => put_version_2(alloc, &table, out),
+        Err(status) => status,
+    }
+}
+
+// Says that the simplices of a mesh file are glued, or what else is found.
+fn audit<S: Shelf, O: Sink>(alloc: Global, mesh: &str, shelf: &mut S, out: &mut O) -> Status
+    ensures known { ¬ IsUsage result }
+    ensures answer { IsTrueOf (S.files shelf.old) result (audit_command mesh.now) }
+    ensures shelf { LeavesShelf S.faults S.files S.sound
+        (LacksFile (S.files shelf.old) (audit_command mesh.now)) result shelf.old shelf.new }
+    ensures output { LeavesOutput O.faults O.bytes
+        (λ text. IsOutput (S.files shelf.old) text (audit_command mesh.now)) result out.old out.new }
+    ensures left { LeavesRest (S.files shelf.old) result (S.rest shelf.new) (audit_command mesh.now) }
+{
+    match read_glued(alloc, shelf, mesh) {
+        Ok(boundary) => put_clean(boundary, out),
         Err(status) => status,
     }
 }

@@ -2,13 +2,16 @@
 
 ghost use Rattle.std.specs.Prelude.{◌≡◌};
 ghost use Rattle.nrrd_raw.specs.declared.faults.GridFault.{GridFault};
+ghost use Rattle.off_read.specs.declared.faults.OffFault.{OffFault};
 ghost use Rattle.iso_cli.specs.declared.status.Status.TheVariants.{Memory, ShelfFault, WriteFault};
 ghost use Rattle.iso_cli.specs.StatusLines.{status_code};
-ghost use Rattle.iso_cli.specs.StatusCauses.{grid_status, table_status};
+ghost use Rattle.iso_cli.specs.StatusCauses.{grid_status, off_status, table_status};
 
-use iso_base::Failed;
+use iso_base::{Failed, Memory as NoMemory};
 use iso_formats::Field;
+use mesh_audit::Finding;
 use nrrd_raw::GridFault;
+use off_read::OffFault;
 use off_write::WriteFault;
 use std::alloc::{AllocError, AllocFailed};
 use table_file::TableFault;
@@ -36,6 +39,10 @@ pub enum Status {
     GridLarge(u128),
     /// The table and the grid have different dimensions.
     Unfit { table: u8, grid: u8 },
+    /// The mesh file is no mesh.
+    MeshForm(OffCause),
+    /// The simplices of the mesh are not glued: what is found in it, which is never `Clean`.
+    AuditFault(Finding),
 }
 
 /// Why a file is no table.
@@ -101,6 +108,27 @@ pub enum GridCause {
     Trailing,
 }
 
+/// Why a file is no mesh. Numbers of lines are counted from 1.
+#[derive(Clone, Copy, Debug, PartialEq, Eq, Drop)]
+pub enum OffCause {
+    /// It has more than 2^30 bytes.
+    Long,
+    /// It does not begin with `OFF`, or `nOFF` and 2, 3 or 4.
+    Header(u32),
+    /// The line has a wrong number of vertices, faces or edges.
+    Count(u32),
+    /// The line has a wrong coordinate.
+    Coordinate(u32),
+    /// The line has a face with another number of vertices than the mesh has dimensions.
+    FaceSize(u32),
+    /// The line has a wrong vertex of a face.
+    Index(u32),
+    /// The line has a word behind the last face.
+    Extra(u32),
+    /// The file ends too early, behind so many lines.
+    Short(u32),
+}
+
 impl Status {
     /// The exit code: 0 for `Done`, and a number of its own for each other status.
     pub fn code(&self) -> u8
@@ -117,6 +145,8 @@ impl Status {
             Status::GridForm(_) => 7,
             Status::GridLarge(_) => 8,
             Status::Unfit { .. } => 9,
+            Status::AuditFault(_) => 13,
+            Status::MeshForm(_) => 14,
         }
     }
 }
@@ -133,6 +163,14 @@ impl<T: Drop> From<AllocFailed<T>> for Status {
     ghost from_gives = { λ _ status. status ≡ Memory };
 
     fn from(_: AllocFailed<T>) -> Self {
+        Status::Memory
+    }
+}
+
+impl From<NoMemory> for Status {
+    ghost from_gives = { λ _ status. status ≡ Memory };
+
+    fn from(_: NoMemory) -> Self {
         Status::Memory
     }
 }
@@ -215,6 +253,25 @@ impl From<GridFault> for Status {
             GridFault::Trailing => Status::GridForm(GridCause::Trailing),
             GridFault::Shelf(count) => Status::ShelfFault(count),
             GridFault::Memory => Status::Memory,
+        }
+    }
+}
+
+impl From<OffFault> for Status {
+    ghost from_gives = { λ fault status. status ≡ off_status fault };
+
+    fn from(fault: OffFault) -> Self {
+        match fault {
+            OffFault::Long => Status::MeshForm(OffCause::Long),
+            OffFault::Header(line) => Status::MeshForm(OffCause::Header(line)),
+            OffFault::Count(line) => Status::MeshForm(OffCause::Count(line)),
+            OffFault::Coordinate(line) => Status::MeshForm(OffCause::Coordinate(line)),
+            OffFault::FaceSize(line) => Status::MeshForm(OffCause::FaceSize(line)),
+            OffFault::Index(line) => Status::MeshForm(OffCause::Index(line)),
+            OffFault::Extra(line) => Status::MeshForm(OffCause::Extra(line)),
+            OffFault::Short(lines) => Status::MeshForm(OffCause::Short(lines)),
+            OffFault::Shelf(count) => Status::ShelfFault(count),
+            OffFault::Memory => Status::Memory,
         }
     }
 }

@@ -7,6 +7,7 @@ use std::process::Abort;
 use std::test::Fail;
 use worked_tables::{SQUARE, SQUARE2, TETRAHEDRON, TRIANGLE};
 
+mod audited;
 mod converted;
 mod decided;
 mod generated;

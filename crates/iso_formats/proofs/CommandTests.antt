@@ -8,7 +8,7 @@ use Rattle.lists.specs.Orders.{same_list}
 use Rattle.std.proofs.lemmas.List.Sums.{AllPass-from_list_all}
 use Rattle.iso_model.specs.declared.Kind.TheVariants.{Cube, Simplex, Pyramid}
 use Rattle.iso_formats.specs.Commands.{is_number, has_key_of, IsNumber, Say, IsWrongWord, Command, generate_command, check_command, extract_command}
-use Rattle.iso_formats.specs.Commands.{demo_command, convert_command, each_command, size_limit, iso_limit}
+use Rattle.iso_formats.specs.Commands.{demo_command, convert_command, audit_command, each_command, size_limit, iso_limit}
 
 leading_zero : IsFalse (is_number (codes "05"))
 leading_zero = refl
@@ -82,6 +82,7 @@ padded_never : (more : List (List ℕ)) (c : Command) → Say (padded_words ++ m
 padded_never more (generate_command kind d) s = another refl s.are_for.named.1
 padded_never more (check_command table) s = another refl s.are_for.named.1
 padded_never more (convert_command table) s = another refl s.are_for.named.1
+padded_never more (audit_command mesh) s = another refl s.are_for.named.1
 padded_never more (demo_command kind d size seed) s = another refl s.are_for.named.1
 padded_never more (extract_command table grid iso) s =
     let e = head_same _ _ _ _ s.iso_is.1 in
@@ -115,6 +116,7 @@ large_never : (more : List (List ℕ)) (c : Command) → Say (large_words ++ mor
 large_never more (generate_command kind d) s = another refl s.are_for.named.1
 large_never more (check_command table) s = another refl s.are_for.named.1
 large_never more (convert_command table) s = another refl s.are_for.named.1
+large_never more (audit_command mesh) s = another refl s.are_for.named.1
 large_never more (extract_command table grid iso) s = another refl s.are_for.named.1
 large_never more (demo_command Cube d size seed) s = absurd (omega (arith, ap (λ (l : List ℕ). slice_index l 0) (head_same _ _ _ _ s.kind_is)))
 large_never more (demo_command Simplex d size seed) s = absurd (omega (arith, ap (λ (l : List ℕ). slice_index l 0) (head_same _ _ _ _ s.kind_is)))
@@ -148,6 +150,7 @@ nothing_never : (c : Command) → Say [] c → ⊥
 nothing_never (generate_command kind d) s = let e = s.are_for.named.1 in cc
 nothing_never (check_command table) s = let e = s.are_for.named.1 in cc
 nothing_never (convert_command table) s = let e = s.are_for.named.1 in cc
+nothing_never (audit_command mesh) s = let e = s.are_for.named.1 in cc
 nothing_never (demo_command kind d size seed) s = let e = s.are_for.named.1 in cc
 nothing_never (extract_command table grid iso) s = let e = s.are_for.named.1 in cc
 
@@ -166,6 +169,7 @@ early_never : (c : Command) → Say early_words c → ⊥
 early_never (generate_command kind d) s = another refl s.are_for.named.1
 early_never (check_command table) s = another refl s.are_for.named.1
 early_never (convert_command table) s = another refl s.are_for.named.1
+early_never (audit_command mesh) s = another refl s.are_for.named.1
 early_never (demo_command kind d size seed) s = another refl s.are_for.named.1
 early_never (extract_command table grid iso) s = absurd (omega (arith, ap length s.iso_is.1))
 
@@ -184,6 +188,7 @@ great_never : (more : List (List ℕ)) (c : Command) → Say (great_words ++ mor
 great_never more (generate_command kind d) s = another refl s.are_for.named.1
 great_never more (check_command table) s = another refl s.are_for.named.1
 great_never more (convert_command table) s = another refl s.are_for.named.1
+great_never more (audit_command mesh) s = another refl s.are_for.named.1
 great_never more (demo_command kind d size seed) s = another refl s.are_for.named.1
 great_never more (extract_command table grid iso) s =
     let v = ap (signed_digits_value 10) (head_same _ _ _ _ s.iso_is.1) ∙ s.iso_is.2.1 in
@@ -204,6 +209,7 @@ flat_words = codes "generate" ∷ codes "dim=2" ∷ codes "kind=pyramid" ∷ []
 flat_never : (more : List (List ℕ)) (c : Command) → Say (flat_words ++ more) c → ⊥
 flat_never more (check_command table) s = another refl s.are_for.named.1
 flat_never more (convert_command table) s = another refl s.are_for.named.1
+flat_never more (audit_command mesh) s = another refl s.are_for.named.1
 flat_never more (extract_command table grid iso) s = another refl s.are_for.named.1
 flat_never more (demo_command kind d size seed) s = another refl s.are_for.named.1
 flat_never more (generate_command Cube d) s = absurd (omega (arith, ap (λ (l : List ℕ). slice_index l 0) (head_same _ _ _ _ s.kind_is)))

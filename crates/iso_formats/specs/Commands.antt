@@ -61,6 +61,7 @@ pub data Command : Type 0 where
   extract_command : List ℕ → List ℕ → ℤ → Command
   demo_command : Kind → ℕ → ℕ → ℕ → Command
   convert_command : List ℕ → Command
+  audit_command : List ℕ → Command
 
 -- the word of a kind
 abbrev pub kind_name : Kind → List ℕ
@@ -116,6 +117,11 @@ pub record SayConvert (words : List (List ℕ)) (table : List ℕ) : Type 0 wher
   pub are_for : AreFor words (codes "convert") (codes "table" ∷ [])
   pub table_is : GivesFile words (codes "table") table
 
+-- the words of audit
+pub record SayAudit (words : List (List ℕ)) (mesh : List ℕ) : Type 0 where
+  pub are_for : AreFor words (codes "audit") (codes "mesh" ∷ [])
+  pub mesh_is : GivesFile words (codes "mesh") mesh
+
 -- the words say the command
 abbrev pub Say : List (List ℕ) → Command → Type 0
 Say words (generate_command kind d) = SayGenerate words kind d
@@ -123,6 +129,7 @@ Say words (check_command table) = SayCheck words table
 Say words (extract_command table grid iso) = SayExtract words table grid iso
 Say words (demo_command kind d size seed) = SayDemo words kind d size seed
 Say words (convert_command table) = SayConvert words table
+Say words (audit_command mesh) = SayAudit words mesh
 
 -- ---- right lists, for a program that has some of the commands
 

@@ -11,20 +11,20 @@ use Rattle.std.proofs.lemmas.List.Sums.{AllPass-from_list_all}
 use Rattle.iso_model.specs.declared.Kind.{Kind as CellKind}
 use Rattle.iso_model.specs.declared.Kind.TheVariants.{Cube, Simplex, Pyramid}
 use Rattle.iso_model.specs.Cells.{HasDimension}
-use Rattle.iso_formats.specs.Commands.{value_for, generate_command, check_command, extract_command, convert_command, has_key_of, BeginRight}
+use Rattle.iso_formats.specs.Commands.{value_for, generate_command, check_command, extract_command, convert_command, audit_command, has_key_of, BeginRight}
 use Rattle.iso_words.specs.declared.keys.CommandName.{CommandName}
-use Rattle.iso_words.specs.declared.keys.CommandName.TheVariants.{Generate, Check, Extract, Convert}
+use Rattle.iso_words.specs.declared.keys.CommandName.TheVariants.{Generate, Check, Extract, Convert, Audit}
 use Rattle.iso_words.specs.declared.given.Given.{Given}
 use Rattle.iso_words.specs.Built.{is_built}
 use Rattle.iso_words.specs.declared.keys.Key.{Key}
-use Rattle.iso_words.specs.declared.keys.Key.TheVariants.{Kind, Dim, Table, Grid, Iso}
+use Rattle.iso_words.specs.declared.keys.Key.TheVariants.{Kind, Dim, Table, Grid, Iso, Mesh}
 use Rattle.iso_words.specs.Keys.{key_text, name_text, keys_of, has_key}
 use Rattle.lists.specs.Orders.{same_list}
 use Rattle.lists.proofs.MemberLaws.{lists_equal}
 use Rattle.iso_words.proofs.KeyLemmas.{value_for-other, has_key_of-key}
 use Rattle.iso_words.specs.Given.{IsKind, IsDimension, IsFile, IsIsovalue, Fit, values_of, Stood, Gave}
 use Rattle.iso_words.proofs.StoodLemmas.{values_of-append}
-use Rattle.iso_words.proofs.RightLemmas.{SayGenerate-given, SayCheck-given, SayExtract-given, SayConvert-given}
+use Rattle.iso_words.proofs.RightLemmas.{SayGenerate-given, SayCheck-given, SayExtract-given, SayConvert-given, SayAudit-given}
 
 -- a word for a key that is missing
 abbrev fill : Bool → List ℕ → List (List ℕ)
@@ -60,6 +60,7 @@ word_of-value Dim text = refl
 word_of-value Table text = refl
 word_of-value Grid text = refl
 word_of-value Iso text = refl
+word_of-value Mesh text = refl
 
 fill_values : (k : Key) (given : Bool) (text key : List ℕ)
     → values_of key (fill given (word_of k text)) ≡ cond (same_list (key_text k) key) (fill given text) []
@@ -166,9 +167,19 @@ begin_convert further given g =
     (after_fills IsFile table (codes "table") rows further (codes "a") (codes "a") a_file (append-nil _) (g.stood Table)) in
     (fills rows, (convert_command (standing table (codes "a")), refl, said))
 
+begin_audit : (further : List (List ℕ)) (given : Given) → Gave Audit further given → BeginRight is_built (codes "audit" ∷ further)
+begin_audit further given g =
+    let mesh = option_copied given.mesh in
+    let rows = (Mesh, is_some mesh, codes "a") ∷ [] in
+    let said =
+    SayAudit-given (further ++ fills rows) (standing mesh (codes "a")) (keyed_on Audit rows further refl g.keyed)
+    (after_fills IsFile mesh (codes "mesh") rows further (codes "a") (codes "a") a_file (append-nil _) (g.stood Mesh)) in
+    (fills rows, (audit_command (standing mesh (codes "a")), refl, said))
+
 -- some right list begins with the name of a command and words that gave right values
 pub BeginRight-given : (name : CommandName) (further : List (List ℕ)) (given : Given) → Gave name further given → BeginRight is_built (name_text name ∷ further)
 BeginRight-given Generate further given g = begin_generate further given g
 BeginRight-given Check further given g = begin_check further given g
 BeginRight-given Extract further given g = begin_extract further given g
 BeginRight-given Convert further given g = begin_convert further given g
+BeginRight-given Audit further given g = begin_audit further given g

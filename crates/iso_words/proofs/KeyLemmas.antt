@@ -7,9 +7,9 @@ use Rattle.std.proofs.lemmas.Slice.Eq.{bytes_eq-Decides}
 use Rattle.lists.specs.Orders.{has, same_list}
 use Rattle.iso_formats.specs.Commands.{value_for, has_key_of}
 use Rattle.iso_words.specs.declared.keys.Key.{Key}
-use Rattle.iso_words.specs.declared.keys.Key.TheVariants.{Kind, Dim, Table, Grid, Iso}
+use Rattle.iso_words.specs.declared.keys.Key.TheVariants.{Kind, Dim, Table, Grid, Iso, Mesh}
 use Rattle.iso_words.specs.declared.keys.CommandName.{CommandName}
-use Rattle.iso_words.specs.declared.keys.CommandName.TheVariants.{Generate, Check, Extract, Convert}
+use Rattle.iso_words.specs.declared.keys.CommandName.TheVariants.{Generate, Check, Extract, Convert, Audit}
 use Rattle.iso_words.specs.Keys.{key_text, name_text, own_keys, keys_of, has_key}
 
 some_test : {A : Type 0} (t : Bool) (x v : A) → cond t (Some x) None ≡ Some v → t ≡ true
@@ -85,6 +85,7 @@ every_key =
     ∷ Table
     ∷ Grid
     ∷ Iso
+    ∷ Mesh
     ∷ []
 
 key_found : (key : Key) → with_word key_text (key_text key) every_key ≡ Some key
@@ -93,6 +94,7 @@ key_found Dim = refl
 key_found Table = refl
 key_found Grid = refl
 key_found Iso = refl
+key_found Mesh = refl
 
 pub key_text-one : (k l : Key) → key_text k ≡ key_text l → k ≡ l
 key_text-one = one_word key_text every_key key_found
@@ -103,6 +105,7 @@ every_name =
     ∷ Check
     ∷ Extract
     ∷ Convert
+    ∷ Audit
     ∷ []
 
 name_found : (name : CommandName) → with_word name_text (name_text name) every_name ≡ Some name
@@ -110,6 +113,7 @@ name_found Generate = refl
 name_found Check = refl
 name_found Extract = refl
 name_found Convert = refl
+name_found Audit = refl
 
 pub name_text-one : (m n : CommandName) → name_text m ≡ name_text n → m ≡ n
 name_text-one = one_word name_text every_name name_found

@@ -6,7 +6,7 @@ use Rattle.std.proofs.lemmas.Bool.{false≢true, true≢false}
 use Rattle.iso_formats.specs.Commands.{AreRight}
 use Rattle.iso_words.specs.Built.{is_built}
 use Rattle.iso_words.specs.declared.keys.Key.{Key}
-use Rattle.iso_words.specs.declared.keys.Key.TheVariants.{Kind, Dim, Table, Grid, Iso}
+use Rattle.iso_words.specs.declared.keys.Key.TheVariants.{Kind, Dim, Table, Grid, Iso, Mesh}
 use Rattle.iso_words.specs.declared.keys.CommandName.{CommandName}
 use Rattle.iso_words.specs.declared.given.Given.{Given}
 use Rattle.iso_words.specs.Keys.{key_text, name_text, own_keys}
@@ -31,6 +31,7 @@ missing Dim given further s e once = none_stands IsDimension given.dim once.1 _ 
 missing Table given further s e once = no_file_stands given.table once.0 _ s e once.1
 missing Grid given further s e once = no_file_stands given.grid once.0 _ s e once.1
 missing Iso given further s e once = none_stands IsIsovalue given.iso once.0 _ s e once.1
+missing Mesh given further s e once = no_file_stands given.mesh once.0 _ s e once.1
 
 pub Lacks-wrong : (name : CommandName) (further : List (List ℕ)) (given : Given) → Gave name further given → Lacks name given
     → AreRight is_built (name_text name ∷ further) → ⊥

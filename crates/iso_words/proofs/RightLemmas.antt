@@ -7,18 +7,19 @@ use Rattle.std.proofs.lemmas.Bool.{false≢true, and_parts}
 use Rattle.std.proofs.lemmas.List.Sums.{list_all-from_AllPass}
 use Rattle.iso_model.specs.declared.Kind.{Kind as CellKind}
 use Rattle.iso_model.specs.Cells.{HasDimension}
-use Rattle.iso_formats.specs.Commands.{Command as Asked, generate_command, check_command, extract_command, convert_command, demo_command, has_key_of, kind_name, Say}
-use Rattle.iso_formats.specs.Commands.{SayGenerate, SayCheck, SayExtract, SayConvert, AreRight, BeginRight}
+use Rattle.iso_formats.specs.Commands.{Command as Asked, generate_command, check_command, extract_command, demo_command, has_key_of, kind_name, Say}
+use Rattle.iso_formats.specs.Commands.{convert_command, audit_command}
+use Rattle.iso_formats.specs.Commands.{SayGenerate, SayCheck, SayExtract, SayConvert, SayAudit, AreRight, BeginRight}
 use Rattle.iso_words.specs.declared.keys.Key.{Key}
-use Rattle.iso_words.specs.declared.keys.Key.TheVariants.{Kind, Dim, Table, Grid, Iso}
+use Rattle.iso_words.specs.declared.keys.Key.TheVariants.{Kind, Dim, Table, Grid, Iso, Mesh}
 use Rattle.iso_words.specs.declared.keys.CommandName.{CommandName}
-use Rattle.iso_words.specs.declared.keys.CommandName.TheVariants.{Generate, Check, Extract, Convert}
+use Rattle.iso_words.specs.declared.keys.CommandName.TheVariants.{Generate, Check, Extract, Convert, Audit}
 use Rattle.iso_words.specs.declared.given.Given.{Given}
 use Rattle.iso_words.specs.Built.{is_built}
 use Rattle.iso_words.specs.Keys.{key_text, name_text, own_keys, keys_of, has_key}
 use Rattle.iso_words.specs.Given.{IsKind, IsDimension, IsFile, IsIsovalue, Fit, values_of, Stood, Gave, WereGiven, IsWhole, SayNamed, name_of}
 use Rattle.iso_words.specs.declared.Command.{Command}
-use Rattle.iso_words.specs.declared.Command.TheVariants.{Generate as generate, Check as check, Extract as extract, Convert as convert}
+use Rattle.iso_words.specs.declared.Command.TheVariants.{Generate as generate, Check as check, Extract as extract, Convert as convert, Audit as audit}
 use Rattle.iso_words.proofs.KindLemmas.{HasDimension-limits}
 use Rattle.iso_words.proofs.KeyLemmas.{key_text-one, name_text-one}
 use Rattle.lists.specs.Orders.{same_list}
@@ -37,6 +38,7 @@ StandsOnce Dim further = StandTogether further
 StandsOnce Table further = (name : List ℕ) × Stood IsFile (Some name) (values_of (codes "table") further)
 StandsOnce Grid further = (name : List ℕ) × Stood IsFile (Some name) (values_of (codes "grid") further)
 StandsOnce Iso further = (n : ℤ) × Stood IsIsovalue (Some n) (values_of (codes "iso") further)
+StandsOnce Mesh further = (name : List ℕ) × Stood IsFile (Some name) (values_of (codes "mesh") further)
 
 -- what stands behind the name of a command in a right list
 pub record HasKeys (name : CommandName) (further : List (List ℕ)) : Type 0 where
@@ -49,6 +51,7 @@ Values Generate = CellKind × ℕ
 Values Check = List ℕ
 Values Extract = List ℕ × List ℕ × ℤ
 Values Convert = List ℕ
+Values Audit = List ℕ
 
 -- the command of a name with these values
 abbrev pub with_values : (name : CommandName) → Values name → Asked
@@ -56,6 +59,7 @@ with_values Generate (kind, d) = generate_command kind d
 with_values Check table = check_command table
 with_values Extract (table, grid, iso) = extract_command table grid iso
 with_values Convert table = convert_command table
+with_values Audit mesh = audit_command mesh
 
 -- each command that is built has a name
 pub built_values : (c : Asked) → IsTrue (is_built c) → (name : CommandName) × (values : Values name) × (c ≡ with_values name values)
@@ -63,6 +67,7 @@ built_values (generate_command kind d) b = (Generate, (kind, d), refl)
 built_values (check_command table) b = (Check, table, refl)
 built_values (extract_command table grid iso) b = (Extract, (table, grid, iso), refl)
 built_values (convert_command table) b = (Convert, table, refl)
+built_values (audit_command mesh) b = (Audit, mesh, refl)
 built_values (demo_command kind d size seed) b = absurd (false≢true b)
 
 -- the words that say it begin with this name
@@ -72,6 +77,7 @@ begins_named Generate values words s = s.are_for.named
 begins_named Check values words s = s.are_for.named
 begins_named Extract values words s = s.are_for.named
 begins_named Convert values words s = s.are_for.named
+begins_named Audit values words s = s.are_for.named
 
 pub begins-one : (m n : CommandName) (values : Values n) (words further : List (List ℕ)) → words ≡ name_text m ∷ further → Say words (with_values n values) → m ≡ n
 begins-one m n values words further e s =
@@ -92,6 +98,7 @@ has_keys Extract (table, grid, iso) further s =
     let iso_once : StandsOnce Iso further = (iso, (s.iso_is.0, s.iso_is.1, (s.iso_is.2, s.iso_from, s.iso_to))) in
     record { keyed = s.are_for.keyed; once = (table_once, (grid_once, (iso_once, tt))) }
 has_keys Convert table further s = record { keyed = s.are_for.keyed; once = ((table, (table, s.table_is.0, (refl, s.table_is.1))), tt) }
+has_keys Audit mesh further s = record { keyed = s.are_for.keyed; once = ((mesh, (mesh, s.mesh_is.0, (refl, s.mesh_is.1))), tt) }
 
 pub HasKeys-from_right : (name : CommandName) (further : List (List ℕ)) → AreRight is_built (name_text name ∷ further) → HasKeys name further
 HasKeys-from_right name further right =
@@ -152,6 +159,13 @@ SayConvert-given further table keyed t = record {
   table_is = (t.1 ∙ ap (λ (v : List ℕ). v ∷ []) t.2.0, t.2.1);
 }
 
+pub SayAudit-given : (further : List (List ℕ)) (mesh : List ℕ) → AllPass (has_key_of (keys_of Audit)) further
+    → Stood IsFile (Some mesh) (values_of (codes "mesh") further) → SayAudit (codes "audit" ∷ further) mesh
+SayAudit-given further mesh keyed m = record {
+  are_for = record { named = (further, refl); keyed = keyed };
+  mesh_is = (m.1 ∙ ap (λ (v : List ℕ). v ∷ []) m.2.0, m.2.1);
+}
+
 -- what is said, where the values of a command were given
 file_stood : (key : List ℕ) (further : List (List ℕ)) (o : Option (Bor (List ℕ))) (name : Bor (List ℕ)) → o ≡ Some name
     → Stood IsFile (option_copied o) (values_of key further) → Stood IsFile (Some name.now) (values_of key further)
@@ -171,6 +185,7 @@ say_given (extract table grid iso) further given w g =
     SayExtract-given further table.now grid.now iso g.keyed (file_stood (codes "table") further given.table table w.0 (g.stood Table))
     (file_stood (codes "grid") further given.grid grid w.1 (g.stood Grid)) (value_stood IsIsovalue _ given.iso iso w.2 (g.stood Iso))
 say_given (convert table) further given w g = SayConvert-given further table.now g.keyed (file_stood (codes "table") further given.table table w (g.stood Table))
+say_given (audit mesh) further given w g = SayAudit-given further mesh.now g.keyed (file_stood (codes "mesh") further given.mesh mesh w (g.stood Mesh))
 
 pub Say-whole : (name : CommandName) (command : Command) (further : List (List ℕ)) (given : Given) → IsWhole name given command → Gave name further given
     → SayNamed name further command

@@ -10,7 +10,7 @@ use Rattle.lists.specs.Orders.{same_list}
 use Rattle.lists.proofs.MemberLaws.{lists_equal}
 use Rattle.iso_formats.specs.Commands.{has_key_of}
 use Rattle.iso_words.specs.declared.keys.Key.{Key}
-use Rattle.iso_words.specs.declared.keys.Key.TheVariants.{Kind, Dim, Table, Grid, Iso}
+use Rattle.iso_words.specs.declared.keys.Key.TheVariants.{Kind, Dim, Table, Grid, Iso, Mesh}
 use Rattle.iso_words.specs.declared.keys.CommandName.{CommandName}
 use Rattle.iso_words.specs.declared.given.Given.{Given}
 use Rattle.iso_words.specs.Keys.{key_text, keys_of, has_key, HasValue}
@@ -25,6 +25,7 @@ nothing = record {
   table = None;
   grid = None;
   iso = None;
+  mesh = None;
 }
 
 nothing_stood : (key : Key) → StoodAt key nothing []
@@ -33,6 +34,7 @@ nothing_stood Dim = refl
 nothing_stood Table = refl
 nothing_stood Grid = refl
 nothing_stood Iso = refl
+nothing_stood Mesh = refl
 
 pub Gave-nothing : (name : CommandName) → Gave name [] nothing
 Gave-nothing name = record { keyed = All-nil (λ w. has_key_of (keys_of name) w ≡ true); stood = nothing_stood; fits = tt }
@@ -45,6 +47,7 @@ index Dim = 1
 index Table = 2
 index Grid = 3
 index Iso = 4
+index Mesh = 5
 
 abbrev pub stood_list : Given → List (List (List ℕ) → Type 0)
 stood_list given =
@@ -53,6 +56,7 @@ stood_list given =
     ∷ StoodAt Table given
     ∷ StoodAt Grid given
     ∷ StoodAt Iso given
+    ∷ StoodAt Mesh given
     ∷ []
 
 key_at : (key : Key) → get_or every_key (index key) Kind ≡ key
@@ -61,6 +65,7 @@ key_at Dim = refl
 key_at Table = refl
 key_at Grid = refl
 key_at Iso = refl
+key_at Mesh = refl
 
 stood_at : (key : Key) (given : Given) → get_or (stood_list given) (index key) (λ values. ⊤) ≡ StoodAt key given
 stood_at Kind given = refl
@@ -68,6 +73,7 @@ stood_at Dim given = refl
 stood_at Table given = refl
 stood_at Grid given = refl
 stood_at Iso given = refl
+stood_at Mesh given = refl
 
 -- the value of this key alone is new
 abbrev pub Changes : Key → Given → Given → Type 1

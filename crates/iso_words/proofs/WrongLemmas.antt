@@ -10,9 +10,9 @@ use Rattle.std.proofs.lemmas.List.{take_more, take-append-drop, take-take, appen
 use Rattle.iso_formats.specs.Commands.{Command as Asked, kind_name, Gives}
 use Rattle.iso_formats.specs.Commands.{GivesNumber, Say, AreRight, BeginRight, IsWrongWord}
 use Rattle.iso_words.specs.declared.Command.{Command}
-use Rattle.iso_words.specs.declared.Command.TheVariants.{Generate as generate, Check as check, Extract as extract, Convert as convert}
+use Rattle.iso_words.specs.declared.Command.TheVariants.{Generate as generate, Check as check, Extract as extract, Convert as convert, Audit as audit}
 use Rattle.iso_words.specs.declared.keys.CommandName.{CommandName}
-use Rattle.iso_words.specs.declared.keys.CommandName.TheVariants.{Generate, Check, Extract, Convert}
+use Rattle.iso_words.specs.declared.keys.CommandName.TheVariants.{Generate, Check, Extract, Convert, Audit}
 use Rattle.iso_words.specs.declared.given.Given.{Given}
 use Rattle.iso_words.specs.Built.{is_built, texts, asked}
 use Rattle.iso_words.specs.Keys.{name_text}
@@ -45,6 +45,7 @@ one_values Extract words (table, grid, iso) (table', grid', iso') s t =
     let same_iso = one_number words (codes "iso") iso iso' s.iso_is t.iso_is in
     cc
 one_values Convert words table table' s t = one_value words (codes "table") table table' s.table_is.0 t.table_is.0
+one_values Audit words mesh mesh' s t = one_value words (codes "mesh") mesh mesh' s.mesh_is.0 t.mesh_is.0
 
 pub Say-one : (words : List (List ℕ)) (c d : Asked) → IsTrue (is_built c) → IsTrue (is_built d) → Say words c → Say words d → c ≡ d
 Say-one words c d b e s t =
@@ -179,6 +180,7 @@ asked_built (generate kind dim) = refl
 asked_built (check table) = refl
 asked_built (extract table grid iso) = refl
 asked_built (convert table) = refl
+asked_built (audit mesh) = refl
 
 -- ---- how many values were given
 
@@ -195,4 +197,5 @@ few_given given =
       at_most_one (is_some given.table),
       at_most_one (is_some given.grid),
       at_most_one (is_some given.iso),
+      at_most_one (is_some given.mesh),
     )

@@ -2,9 +2,9 @@
 use Rattle.std.specs.Prelude.{ℕ, Bool, true, false, List, map, IsTrue}
 use Rattle.std.specs.String.{string_bytes}
 use Rattle.std.specs.declared.string.String.{String}
-use Rattle.iso_formats.specs.Commands.{Command as Asked, Say, generate_command, check_command, extract_command, convert_command}
+use Rattle.iso_formats.specs.Commands.{Command as Asked, Say, generate_command, check_command, extract_command, convert_command, audit_command}
 use Rattle.iso_words.specs.declared.Command.{Command}
-use Rattle.iso_words.specs.declared.Command.TheVariants.{Generate, Check, Extract, Convert}
+use Rattle.iso_words.specs.declared.Command.TheVariants.{Generate, Check, Extract, Convert, Audit}
 
 -- the commands that are built
 abbrev pub is_built : Asked → Bool
@@ -12,6 +12,7 @@ is_built (generate_command kind d) = true
 is_built (check_command table) = true
 is_built (extract_command table grid iso) = true
 is_built (convert_command table) = true
+is_built (audit_command mesh) = true
 is_built _ = false
 
 -- the bytes of each word
@@ -28,3 +29,4 @@ asked (Generate kind dim) = generate_command kind dim
 asked (Check table) = check_command table.now
 asked (Extract table grid iso) = extract_command table.now grid.now iso
 asked (Convert table) = convert_command table.now
+asked (Audit mesh) = audit_command mesh.now

@@ -9,11 +9,11 @@ use Rattle.iso_model.specs.Cells.{HasDimension}
 use Rattle.iso_formats.specs.Commands.{BeginRight, Say, value_for, has_key_of, kind_name, IsNumber, iso_limit}
 use Rattle.iso_words.specs.Built.{asked, is_built}
 use Rattle.iso_words.specs.declared.Command.{Command}
-use Rattle.iso_words.specs.declared.Command.TheVariants.{Generate as generate, Check as check, Extract as extract, Convert as convert}
-use Rattle.iso_words.specs.declared.keys.CommandName.TheVariants.{Generate, Check, Extract, Convert}
+use Rattle.iso_words.specs.declared.Command.TheVariants.{Generate as generate, Check as check, Extract as extract, Convert as convert, Audit as audit}
+use Rattle.iso_words.specs.declared.keys.CommandName.TheVariants.{Generate, Check, Extract, Convert, Audit}
 use Rattle.iso_words.specs.Keys.{key_text, own_keys, keys_of, name_text}
 use Rattle.iso_words.specs.declared.keys.Key.{Key}
-use Rattle.iso_words.specs.declared.keys.Key.TheVariants.{Kind, Dim, Table, Grid, Iso}
+use Rattle.iso_words.specs.declared.keys.Key.TheVariants.{Kind, Dim, Table, Grid, Iso, Mesh}
 use Rattle.iso_words.specs.declared.keys.CommandName.{CommandName}
 use Rattle.iso_words.specs.declared.given.Given.{Given}
 
@@ -68,6 +68,7 @@ StoodAt Dim given values = Stood IsDimension given.dim values
 StoodAt Table given values = Stood IsFile (option_copied given.table) values
 StoodAt Grid given values = Stood IsFile (option_copied given.grid) values
 StoodAt Iso given values = Stood IsIsovalue given.iso values
+StoodAt Mesh given values = Stood IsFile (option_copied given.mesh) values
 
 -- the words behind the command's name have keys of the command, none twice, and give these values, which go together
 pub record Gave (name : CommandName) (further : List (List ℕ)) (given : Given) : Type 0 where
@@ -89,6 +90,7 @@ name_of (generate kind dim) = Generate
 name_of (check table) = Check
 name_of (extract table grid iso) = Extract
 name_of (convert table) = Convert
+name_of (audit mesh) = Audit
 
 -- the values of a command were given
 abbrev pub WereGiven : Given → Command → Type 0
@@ -96,6 +98,7 @@ WereGiven given (generate kind dim) = (given.kind ≡ Some kind) × (given.dim �
 WereGiven given (check table) = given.table ≡ Some table
 WereGiven given (extract table grid iso) = (given.table ≡ Some table) × (given.grid ≡ Some grid) × (given.iso ≡ Some iso)
 WereGiven given (convert table) = given.table ≡ Some table
+WereGiven given (audit mesh) = given.mesh ≡ Some mesh
 
 -- the command of this name, with the values that were given
 abbrev pub IsWhole : CommandName → Given → Command → Type 0
@@ -116,6 +119,7 @@ is_given Dim given = is_some given.dim
 is_given Table given = is_some given.table
 is_given Grid given = is_some given.grid
 is_given Iso given = is_some given.iso
+is_given Mesh given = is_some given.mesh
 
 -- a key of the command is missing
 abbrev pub Lacks : CommandName → Given → Type 0
@@ -129,3 +133,4 @@ given_count given =
     + (if is_some given.table then 1 else 0)
     + (if is_some given.grid then 1 else 0)
     + (if is_some given.iso then 1 else 0)
+    + (if is_some given.mesh then 1 else 0)

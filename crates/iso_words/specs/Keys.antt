@@ -4,9 +4,9 @@ use Rattle.std.specs.List.{list_any}
 use Rattle.lists.specs.Orders.{same_list}
 use Rattle.iso_formats.specs.Commands.{value_for}
 use Rattle.iso_words.specs.declared.keys.Key.{Key}
-use Rattle.iso_words.specs.declared.keys.Key.TheVariants.{Kind, Dim, Table, Grid, Iso}
+use Rattle.iso_words.specs.declared.keys.Key.TheVariants.{Kind, Dim, Table, Grid, Iso, Mesh}
 use Rattle.iso_words.specs.declared.keys.CommandName.{CommandName}
-use Rattle.iso_words.specs.declared.keys.CommandName.TheVariants.{Generate, Check, Extract, Convert}
+use Rattle.iso_words.specs.declared.keys.CommandName.TheVariants.{Generate, Check, Extract, Convert, Audit}
 
 -- this holds of the answer, and where there is none, of nothing
 abbrev pub Finds : {V : Type 0} → (V → Type 0) → Option V → Type 0
@@ -19,6 +19,7 @@ key_text Dim = codes "dim"
 key_text Table = codes "table"
 key_text Grid = codes "grid"
 key_text Iso = codes "iso"
+key_text Mesh = codes "mesh"
 
 -- the word of a command
 abbrev pub name_text : CommandName → List ℕ
@@ -26,6 +27,7 @@ name_text Generate = codes "generate"
 name_text Check = codes "check"
 name_text Extract = codes "extract"
 name_text Convert = codes "convert"
+name_text Audit = codes "audit"
 
 -- a command's keys
 abbrev pub own_keys : CommandName → List Key
@@ -33,6 +35,7 @@ own_keys Generate = Kind ∷ Dim ∷ []
 own_keys Check = Table ∷ []
 own_keys Extract = Table ∷ Grid ∷ Iso ∷ []
 own_keys Convert = Table ∷ []
+own_keys Audit = Mesh ∷ []
 
 -- the words of a command's keys
 abbrev pub keys_of : CommandName → List (List ℕ)

@@ -16,6 +16,7 @@ pub(crate) struct Given<'a> {
     table: Option<&'a str>,
     grid: Option<&'a str>,
     iso: Option<i64>,
+    mesh: Option<&'a str>,
 }
 
 impl<'a> Given<'a> {
@@ -32,6 +33,7 @@ impl<'a> Given<'a> {
             table: None,
             grid: None,
             iso: None,
+            mesh: None,
         }
     }
 
@@ -54,6 +56,7 @@ impl<'a> Given<'a> {
             Key::Table => put(&mut self.table, file_name(value)),
             Key::Grid => put(&mut self.grid, file_name(value)),
             Key::Iso => put(&mut self.iso, isovalue(value)),
+            Key::Mesh => put(&mut self.mesh, file_name(value)),
         }
     }
 
@@ -77,6 +80,10 @@ impl<'a> Given<'a> {
             },
             CommandName::Convert => match self.table {
                 Some(table) => Some(Command::Convert { table }),
+                None => None,
+            },
+            CommandName::Audit => match self.mesh {
+                Some(mesh) => Some(Command::Audit { mesh }),
                 None => None,
             },
         }

@@ -7,6 +7,7 @@ pub(crate) enum CommandName {
     Check,
     Extract,
     Convert,
+    Audit,
 }
 
 impl CommandName {
@@ -25,6 +26,8 @@ impl CommandName {
             Some(CommandName::Extract)
         } else if word == "convert" {
             Some(CommandName::Convert)
+        } else if word == "audit" {
+            Some(CommandName::Audit)
         } else {
             None
         }
@@ -39,6 +42,7 @@ impl CommandName {
             CommandName::Check => matches!(key, Key::Table),
             CommandName::Extract => matches!(key, Key::Table | Key::Grid | Key::Iso),
             CommandName::Convert => matches!(key, Key::Table),
+            CommandName::Audit => matches!(key, Key::Mesh),
         }
     }
 }
@@ -51,6 +55,7 @@ pub(crate) enum Key {
     Table,
     Grid,
     Iso,
+    Mesh,
 }
 
 impl Key {
@@ -71,6 +76,8 @@ impl Key {
             Some(Key::Grid)
         } else if text == "iso" {
             Some(Key::Iso)
+        } else if text == "mesh" {
+            Some(Key::Mesh)
         } else {
             None
         }

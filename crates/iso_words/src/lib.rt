@@ -9,6 +9,7 @@
 //! | `check table=F` | whether the table of the file is accepted |
 //! | `extract table=F grid=F iso=N` | the mesh of the grid at the isovalue |
 //! | `convert table=F` | the table of the file in version 2 of the format |
+//! | `audit mesh=F` | whether the simplices of the mesh file are glued |
 //!
 //! K is `cube`, `simplex` or `pyramid`, and F is a file name of at least one character. N is an optional `-` and
 //! digits, without a leading zero but `0` itself, and not `-0`. A dimension is 2, 3 or 4, and 3 with `pyramid`; an
@@ -48,6 +49,10 @@ pub enum Command<'a> {
     /// Put the table of a file in version 2 of the format.
     Convert {
         table: &'a str,
+    },
+    /// Audit a mesh file.
+    Audit {
+        mesh: &'a str,
     },
 }
 

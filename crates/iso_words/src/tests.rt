@@ -29,6 +29,10 @@ const fn convert(table: &str) -> Command<'_> {
     Command::Convert { table }
 }
 
+const fn audit(mesh: &str) -> Command<'_> {
+    Command::Audit { mesh }
+}
+
 #[test]
 fn right_words_say_their_command(rt: HostRuntime) -> Result<(), Fail> {
     let rows = [
@@ -54,6 +58,7 @@ fn right_words_say_their_command(rt: HostRuntime) -> Result<(), Fail> {
         ("check table=größe.tab", check("größe.tab")),
         ("convert table=a", convert("a")),
         ("convert table=table=b", convert("table=b")),
+        ("audit mesh=a.off", audit("a.off")),
         // each order of the keys
         ("extract table=a grid=b iso=1", extract("a", "b", 1)),
         ("extract table=a iso=1 grid=b", extract("a", "b", 1)),
@@ -86,7 +91,7 @@ fn right_words_say_their_command(rt: HostRuntime) -> Result<(), Fail> {
 }
 
 // Lines, and the number of the first word that is wrong.
-const WRONG_WORDS: [(&str, u32); 73] = [
+const WRONG_WORDS: [(&str, u32); 77] = [
     // commands
     ("", 1),
     (" ", 1),
@@ -118,6 +123,8 @@ const WRONG_WORDS: [(&str, u32); 73] = [
     ("extract table=a grid=b iso=0 iso=0", 5),
     ("convert", 2),
     ("convert table=a table=b", 3),
+    ("audit", 2),
+    ("audit mesh=a mesh=a", 3),
     // no key of the command
     ("generate table=a", 2),
     ("generate kind=cube dim=3 x", 4),
@@ -137,6 +144,7 @@ const WRONG_WORDS: [(&str, u32); 73] = [
     ("extract table=a grid=b iso=1 x y", 5),
     ("convert grid=a", 2),
     ("convert table=a table2=b", 3),
+    ("audit table=a", 2),
     // no right value
     ("generate kind=Cube", 2),
     ("generate kind=cube dim=1", 3),
@@ -151,6 +159,7 @@ const WRONG_WORDS: [(&str, u32); 73] = [
     // a file name or an isovalue
     ("check table=", 2),
     ("convert table=", 2),
+    ("audit mesh=", 2),
     ("extract table=a grid= iso=05", 3),
     ("extract table=a grid=b iso=05", 4),
     ("extract table=a grid=b iso=00", 4),

@@ -255,7 +255,7 @@ const CORNER: &str = "OFF
 ";
 
 // The mesh round two opposite corners of a cube, which it joins.
-const OPPOSITE: &str = "OFF
+pub(super) const OPPOSITE: &str = "OFF
 6 6 0
 0.500000 0.000000 0.000000
 0.000000 0.500000 0.000000
@@ -272,7 +272,7 @@ const OPPOSITE: &str = "OFF
 ";
 
 // The mesh of pyramids round the first corner of a cube, whose centre is negative.
-const BELOW_CENTRE: &str = "OFF
+pub(super) const BELOW_CENTRE: &str = "OFF
 4 3 0
 0.375000 0.000000 0.000000
 0.000000 0.375000 0.000000
@@ -298,7 +298,7 @@ const ABOVE_CENTRE: &str = "OFF
 const HYPERSPACE: &str = "NRRD0001\ntype: uint8\ndimension: 4\nsizes: 2 2 2 2\nencoding: raw\n\n";
 
 // The mesh round the first corner of a hypercube.
-const HYPERCORNER: &str = "nOFF
+pub(super) const HYPERCORNER: &str = "nOFF
 4
 4 1 0
 0.500000 0.000000 0.000000 0.000000
@@ -310,7 +310,7 @@ const HYPERCORNER: &str = "nOFF
 
 // The mesh round the first corner of a hypercube that is split into 24 simplices: a vertex on each edge of the corner, by
 // the set of axes in which it advances, and a tetrahedron for each order of the axes, turned where the order is odd.
-const PENTACHORA: &str = "nOFF
+pub(super) const PENTACHORA: &str = "nOFF
 4
 15 24 0
 0.500000 0.000000 0.000000 0.000000

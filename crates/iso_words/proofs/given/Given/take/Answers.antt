@@ -2,7 +2,7 @@ use Rattle.std.proofs.Common.{◌≡◌, true, refl, sym, ◌∙◌, subst}
 use Rattle.std.specs.Prelude.{codes}
 use Rattle.std.proofs.lemmas.Bool.{OnTrue_at, OnTrue_from, OnFalse_from}
 use Rattle.iso_words.specs.declared.keys.Key.{Key}
-use Rattle.iso_words.specs.declared.keys.Key.TheVariants.{Kind, Dim, Table, Grid, Iso}
+use Rattle.iso_words.specs.declared.keys.Key.TheVariants.{Kind, Dim, Table, Grid, Iso, Mesh}
 use Rattle.iso_words.specs.Keys.{has_key, HasValue}
 use Rattle.iso_words.specs.Given.{IsIsovalue}
 use Rattle.iso_words.proofs.KeyLemmas.{has_key_of-key, has_key_of-no_key}
@@ -105,3 +105,20 @@ returns-in-Iso-clause-refused c = λ further g. OnFalse_from c.put-in-Iso.result
     let has = subst (λ (k : Key). true ≡ has_key c.args.name k) c.in-Iso.is c.if-not-has.ensures in
     never_isovalue c.args.name further c.args.word.now c.in-Some.value.now c.args.self.now.iso c.isovalue.result (sym has) e (g.stood Iso) c.isovalue.ensures
     (sym c.put-in-Iso.ensures.first ∙ t))
+
+pub returns-in-Mesh-clause-taken : goal.returns-in-Mesh-clause-taken
+returns-in-Mesh-clause-taken c = λ further g. OnTrue_from c.put-in-Mesh.result _ (λ t.
+    let e = subst (λ (k : Key). HasValue c.args.word.now k c.in-Some.value.now) c.in-Mesh.is c.in-Some.ensures in
+    let has = subst (λ (k : Key). true ≡ has_key c.args.name k) c.in-Mesh.is c.if-not-has.ensures in
+    let first =
+    first_file (codes "mesh") further c.args.word.now c.in-Some.value.now c.args.self.now.mesh c.file_name-in-Mesh.result e (g.stood Mesh)
+    c.file_name-in-Mesh.ensures (sym c.put-in-Mesh.ensures.first ∙ t) in
+    Gave-taken c.args.name Mesh c.args.self.now _ further c.args.word.now c.in-Some.value.now (sym has) e refl
+    (rw (OnTrue_at t c.put-in-Mesh.ensures.value) first) g.fits g)
+
+pub returns-in-Mesh-clause-refused : goal.returns-in-Mesh-clause-refused
+returns-in-Mesh-clause-refused c = λ further g. OnFalse_from c.put-in-Mesh.result _ (λ t.
+    let e = subst (λ (k : Key). HasValue c.args.word.now k c.in-Some.value.now) c.in-Mesh.is c.in-Some.ensures in
+    let has = subst (λ (k : Key). true ≡ has_key c.args.name k) c.in-Mesh.is c.if-not-has.ensures in
+    never_file c.args.name Mesh (λ xs s. s) further c.args.word.now c.in-Some.value.now c.args.self.now.mesh c.file_name-in-Mesh.result (sym has) e
+    (g.stood Mesh) c.file_name-in-Mesh.ensures (sym c.put-in-Mesh.ensures.first ∙ t))
