@@ -11,7 +11,7 @@ _iso() {
         key=${COMP_WORDS[COMP_CWORD - 2]} value=$word apart=yes
     fi
     if ((COMP_CWORD == 1)); then
-        COMPREPLY=($(compgen -W "generate check extract convert" -- "$word"))
+        COMPREPLY=($(compgen -W "generate check extract convert audit" -- "$word"))
         return
     fi
     local before=
@@ -23,7 +23,7 @@ _iso() {
             [[ " ${COMP_WORDS[*]} " == *" kind = pyramid "* || " ${COMP_WORDS[*]} " == *" kind=pyramid "* ]] && dims=3
             COMPREPLY=($(compgen -P "$before" -W "$dims" -- "$value"))
             ;;
-        table | grid)
+        table | grid | mesh)
             local IFS=$'\n'
             compopt -o filenames
             COMPREPLY=($(compgen -P "$before" -f -- "$value"))
@@ -35,6 +35,7 @@ _iso() {
                 generate) keys="kind= dim=" ;;
                 check | convert) keys="table=" ;;
                 extract) keys="table= grid= iso=" ;;
+                audit) keys="mesh=" ;;
             esac
             for it in $keys; do
                 [[ " ${COMP_WORDS[*]} " == *" $it"* || " ${COMP_WORDS[*]} " == *" ${it%=} = "* ]] || left+=" $it"
