@@ -92,7 +92,9 @@ takes_other label tallies old p first s sound less is read alike differs =
           TakesTallies label (tallies_on old tallies) (seen_at old q) (tallies_at old q) (get_or (set old.seen.items p (Unlike first label)) q Never)
           (tallies_at old q))
           is
-          (subst (λ b. TakesTallies label (tallies_on old tallies) b (tallies_at old p) (get_or (set old.seen.items p (Unlike first label)) p Never) (tallies_at old p))
+          (subst
+          (λ b. TakesTallies label (tallies_on old tallies) b (tallies_at old p)
+          (get_or (set old.seen.items p (Unlike first label)) p Never) (tallies_at old p))
           (sym (seen_is old p s in_seen read ∙ alike))
           (refl, inr (get_or-set_same old.seen.items p (Unlike first label) Never in_seen, differs)));
       others = λ q other. (get_or-set_other old.seen.items p q (Unlike first label) Never (λ e. other (e ∙ is)), refl);

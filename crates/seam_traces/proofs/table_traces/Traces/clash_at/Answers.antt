@@ -15,7 +15,8 @@ returns-in-Some g c =
     c.facet-other.ensures.facet c.facet-facet.ensures.read c.facet-other.ensures.read in
     λ t tell are.
     let told =
-    seam_law g.C.Cell.KIND g.row.D t c.args.self.now c.args.label c.args.tallies.now s x y (Some c.in-Some.against) None law.is_dimension law.has_dimension tell seam are in
+    seam_law g.C.Cell.KIND g.row.D t c.args.self.now c.args.label c.args.tallies.now s x y (Some c.in-Some.against) None
+    law.is_dimension law.has_dimension tell seam are in
     inl (record { facet = refl; other_facet = refl; other = told.0 c.in-Some.ensures })
 
 pub returns-in-Some-least_against : goal.returns-in-Some-least_against
@@ -29,7 +30,8 @@ returns-in-Some-least_against g c =
     c.facet-other.ensures.facet c.facet-facet.ensures.read c.facet-other.ensures.read in
     λ t tell are.
     let told =
-    seam_law g.C.Cell.KIND g.row.D t c.args.self.now c.args.label c.args.tallies.now s x y None (Some c.in-Some-least_against.against) law.is_dimension law.has_dimension tell seam are in
+    seam_law g.C.Cell.KIND g.row.D t c.args.self.now c.args.label c.args.tallies.now s x y None (Some c.in-Some-least_against.against)
+    law.is_dimension law.has_dimension tell seam are in
     inr (record {
       forwards = told.0 c.in_default.ensures;
       facet = refl;
@@ -48,5 +50,6 @@ returns-in-None g c =
     c.facet-other.ensures.facet c.facet-facet.ensures.read c.facet-other.ensures.read in
     λ t tell are.
     let told =
-    seam_law g.C.Cell.KIND g.row.D t c.args.self.now c.args.label c.args.tallies.now s x y None None law.is_dimension law.has_dimension tell seam are in
+    seam_law g.C.Cell.KIND g.row.D t c.args.self.now c.args.label c.args.tallies.now s x y None None
+    law.is_dimension law.has_dimension tell seam are in
     both_kept t c.args.label s (told.0 c.in_default.ensures) (told.1 c.in-None.ensures)
