@@ -5,3 +5,4 @@ pub mod WordVertices
 pub mod RowsOfVertices
 pub mod RowsInGrids
 pub mod PlanesOfVertices
+pub mod CountedCells

@@ -1,2 +1,3 @@
 pub mod RowVertices
 pub mod PlaneVertices
+pub mod CellNumbers

@@ -6,6 +6,8 @@
 
 mod crossings;
 mod rows;
+mod simplices;
 mod vertices;
 
+pub use simplices::add_cell;
 pub use vertices::{Heights, add_vertices};

@@ -10,3 +10,5 @@ mod tests;
 mod vertices;
 
 pub use meshes::place;
+pub use places::MOST_EDGES;
+pub use simplices::add_tuples;

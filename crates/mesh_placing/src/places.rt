@@ -8,7 +8,7 @@ use cube_cells::{SignedCube, is_bipolar};
 use edge_vertex::EdgeList;
 use grid_split::{Edge, Split};
 
-// No cell has more edges: the cube of four dimensions has as many.
+/// No cell has more edges: the cube of four dimensions has as many.
 pub const MOST_EDGES: usize = 32;
 
 // The places of the edges that are bipolar in the label of the cell of this rank, by the numbers of the edges.

@@ -98,8 +98,8 @@ fn add_cell<C: Split<D>, const D: usize>(
     add_tuples(simplices, tuples, &places, C::odd(rank))
 }
 
-// Adds tuples of edges, each edge replaced by its place, and the last two exchanged where `odd` holds.
-fn add_tuples<const D: usize>(
+/// Adds tuples of edges, each edge replaced by its place, and the last two exchanged where `odd` holds.
+pub fn add_tuples<const D: usize>(
     simplices: &mut Vec<[u32; D]>,
     tuples: &[[u8; D]],
     places: &[u32; MOST_EDGES],
