@@ -8,8 +8,8 @@ use Rattle.iso_base.specs.Faults.{CountsFaults, Rose}
 use Rattle.iso_base.specs.declared.outside.Failed.{Failed}
 use Rattle.iso_base.specs.Files.{Files, bytes_of}
 use Rattle.iso_base.specs.Fronts.{AppendsFront}
-use Rattle.iso_formats.specs.Commands.{AreRight, Command, IsWrongWord, Say, generate_command, check_command, extract_command, demo_command}
-use Rattle.iso_formats.specs.Commands.{convert_command, audit_command}
+use Rattle.iso_commands.specs.Commands.{AreRight, Command, IsWrongWord, Say, generate_command, check_command, extract_command, demo_command}
+use Rattle.iso_commands.specs.Commands.{convert_command, audit_command}
 use Rattle.iso_words.specs.Built.{is_built}
 use Rattle.iso_words.proofs.WrongLemmas.{Say-one}
 use Rattle.iso_cli.specs.declared.status.Status.{Status}

@@ -4,9 +4,9 @@ use Rattle.std.proofs.lemmas.Bool.{cases_lt, false≢true}
 use Rattle.iso_base.specs.Files.{Files}
 use Rattle.iso_model.specs.Acceptance.{IsRefusedAt}
 use Rattle.iso_model.specs.Tables.{Table}
-use Rattle.iso_formats.specs.Commands.{Command, IsWrongWord}
-use Rattle.iso_formats.specs.Commands.{generate_command, check_command, extract_command, demo_command}
-use Rattle.iso_formats.specs.Commands.{convert_command, audit_command}
+use Rattle.iso_commands.specs.Commands.{Command, IsWrongWord}
+use Rattle.iso_commands.specs.Commands.{generate_command, check_command, extract_command, demo_command}
+use Rattle.iso_commands.specs.Commands.{convert_command, audit_command}
 use Rattle.iso_formats.specs.GridFaults.{GridFault, HasHeaderFault, HasSampleFault, lines_fault}
 use Rattle.iso_formats.specs.GridFaults.{cut_off, no_magic, of_lines, overlong, too_many, unended}
 use Rattle.iso_formats.specs.GridFaults as fault

@@ -1,8 +1,8 @@
 -- What each command means: a new command adds its lines at the end, and changes none.
 use Rattle.std.specs.Prelude.{◌≡◌, ℕ, List, [], ◌∷◌, Option, None, ⊤}
 use Rattle.iso_base.specs.Files.{Files, bytes_of}
-use Rattle.iso_formats.specs.Commands.{Command, generate_command, check_command, extract_command, demo_command}
-use Rattle.iso_formats.specs.Commands.{convert_command, audit_command}
+use Rattle.iso_commands.specs.Commands.{Command, generate_command, check_command, extract_command, demo_command}
+use Rattle.iso_commands.specs.Commands.{convert_command, audit_command}
 use Rattle.iso_model.specs.Tables.{Table}
 use Rattle.iso_model.specs.Values.{Grid}
 use Rattle.iso_cli.specs.declared.status.Status.{Status}

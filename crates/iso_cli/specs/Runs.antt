@@ -5,7 +5,7 @@ use Rattle.std.specs.Io.KnownBytes.{Appends}
 use Rattle.iso_base.specs.Faults.{Rose}
 use Rattle.iso_base.specs.Files.{Files, bytes_of}
 use Rattle.iso_base.specs.Fronts.{AppendsFront}
-use Rattle.iso_formats.specs.Commands.{Command, Say, AreRight, IsWrongWord}
+use Rattle.iso_commands.specs.Commands.{Command, Say, AreRight, IsWrongWord}
 use Rattle.iso_words.specs.Built.{EachSaid, is_built}
 use Rattle.iso_cli.specs.declared.status.Status.{Status}
 use Rattle.iso_cli.specs.declared.status.Status.TheVariants as Statuses

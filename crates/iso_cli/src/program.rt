@@ -2,7 +2,7 @@
 
 ghost use Rattle.std.specs.Prelude.{◌≡◌, ◌^◌, ◌≤◌, IsSome, unsigned_abs};
 ghost use Rattle.iso_base.specs.Faults.{Rose};
-ghost use Rattle.iso_formats.specs.Commands.{audit_command, check_command, convert_command, extract_command};
+ghost use Rattle.iso_commands.specs.Commands.{audit_command, check_command, convert_command, extract_command};
 ghost use Rattle.iso_words.specs.Built.{EachSaid, texts};
 ghost use Rattle.iso_cli.specs.Outputs.{LeavesOutput};
 ghost use Rattle.iso_cli.specs.Runs.{HoldNeeded, IsAnswerable, IsOutput, IsTrueAnswer, IsTrueOf, LacksFile, SayBuilt};

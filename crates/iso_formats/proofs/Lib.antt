@@ -1,6 +1,5 @@
 pub mod MeshTests
 pub mod GridFileTests
-pub mod CommandTests
 pub mod TableLaws
 pub mod TableFaultTests
 pub mod TablePlaces

@@ -4,6 +4,5 @@ pub mod TableFile2
 pub mod HeaderLines
 pub mod GridFile
 pub mod GridFaults
-pub mod Commands
 pub mod Demo
 pub mod MeshFile

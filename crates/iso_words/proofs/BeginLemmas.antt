@@ -11,7 +11,7 @@ use Rattle.std.proofs.lemmas.List.Sums.{AllPass-from_list_all}
 use Rattle.iso_model.specs.declared.Kind.{Kind as CellKind}
 use Rattle.iso_model.specs.declared.Kind.TheVariants.{Cube, Simplex, Pyramid}
 use Rattle.iso_model.specs.Cells.{HasDimension}
-use Rattle.iso_formats.specs.Commands.{value_for, generate_command, check_command, extract_command, convert_command, audit_command, has_key_of, BeginRight}
+use Rattle.iso_commands.specs.Commands.{value_for, generate_command, check_command, extract_command, convert_command, audit_command, has_key_of, BeginRight}
 use Rattle.iso_words.specs.declared.keys.CommandName.{CommandName}
 use Rattle.iso_words.specs.declared.keys.CommandName.TheVariants.{Generate, Check, Extract, Convert, Audit}
 use Rattle.iso_words.specs.declared.given.Given.{Given}

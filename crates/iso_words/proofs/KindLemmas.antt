@@ -6,7 +6,7 @@ use Rattle.lists.specs.Orders.{same_list}
 use Rattle.iso_model.specs.declared.Kind.{Kind}
 use Rattle.iso_model.specs.declared.Kind.TheVariants.{Cube, Simplex, Pyramid}
 use Rattle.iso_model.specs.Cells.{HasDimension}
-use Rattle.iso_formats.specs.Commands.{kind_name}
+use Rattle.iso_commands.specs.Commands.{kind_name}
 use Rattle.iso_words.specs.Given.{IsKind, IsDimension, IsKindBeside, IsDimensionBeside, Fit, Stood}
 
 pub kind_name-one : (k l : Kind) → kind_name k ≡ kind_name l → k ≡ l

@@ -3,7 +3,7 @@ use Rattle.std.proofs.Common.{◌≡◌, ℕ, Bool, true, false, not, ◌||◌, 
 use Rattle.std.specs.List.{AllByRecursion, list_any}
 use Rattle.std.specs.Option.{is_some, option_copied}
 use Rattle.std.proofs.lemmas.Bool.{false≢true, true≢false}
-use Rattle.iso_formats.specs.Commands.{AreRight}
+use Rattle.iso_commands.specs.Commands.{AreRight}
 use Rattle.iso_words.specs.Built.{is_built}
 use Rattle.iso_words.specs.declared.keys.Key.{Key}
 use Rattle.iso_words.specs.declared.keys.Key.TheVariants.{Kind, Dim, Table, Grid, Iso, Mesh}

@@ -7,9 +7,9 @@ use Rattle.std.proofs.lemmas.Bool.{false≢true, and_parts}
 use Rattle.std.proofs.lemmas.List.Sums.{list_all-from_AllPass}
 use Rattle.iso_model.specs.declared.Kind.{Kind as CellKind}
 use Rattle.iso_model.specs.Cells.{HasDimension}
-use Rattle.iso_formats.specs.Commands.{Command as Asked, generate_command, check_command, extract_command, demo_command, has_key_of, kind_name, Say}
-use Rattle.iso_formats.specs.Commands.{convert_command, audit_command}
-use Rattle.iso_formats.specs.Commands.{SayGenerate, SayCheck, SayExtract, SayConvert, SayAudit, AreRight, BeginRight}
+use Rattle.iso_commands.specs.Commands.{Command as Asked, generate_command, check_command, extract_command, demo_command, has_key_of, kind_name, Say}
+use Rattle.iso_commands.specs.Commands.{convert_command, audit_command}
+use Rattle.iso_commands.specs.Commands.{SayGenerate, SayCheck, SayExtract, SayConvert, SayAudit, AreRight, BeginRight}
 use Rattle.iso_words.specs.declared.keys.Key.{Key}
 use Rattle.iso_words.specs.declared.keys.Key.TheVariants.{Kind, Dim, Table, Grid, Iso, Mesh}
 use Rattle.iso_words.specs.declared.keys.CommandName.{CommandName}

@@ -5,7 +5,7 @@ use Rattle.std.specs.List.{cons_option}
 use Rattle.std.proofs.lemmas.Bool.{false≢true, true≢false}
 use Rattle.std.proofs.lemmas.List.{append-nil}
 use Rattle.std.proofs.lemmas.List.Elements.{filter_map-append}
-use Rattle.iso_formats.specs.Commands.{value_for}
+use Rattle.iso_commands.specs.Commands.{value_for}
 use Rattle.iso_words.specs.Given.{values_of, Stood}
 
 pub values_of-append : (key : List ℕ) (xs ys : List (List ℕ)) → values_of key (xs ++ ys) ≡ values_of key xs ++ values_of key ys

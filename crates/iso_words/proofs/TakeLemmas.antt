@@ -4,7 +4,7 @@ use Rattle.std.specs.Prelude.{ℤ, codes}
 use Rattle.std.specs.Option.{is_some, option_copied, MatchOption}
 use Rattle.iso_model.specs.declared.Kind.{Kind as CellKind}
 use Rattle.iso_model.specs.Cells.{HasDimension}
-use Rattle.iso_formats.specs.Commands.{value_for, BeginRight}
+use Rattle.iso_commands.specs.Commands.{value_for, BeginRight}
 use Rattle.iso_words.specs.declared.keys.Key.{Key}
 use Rattle.iso_words.specs.declared.keys.Key.TheVariants.{Kind, Dim, Iso}
 use Rattle.iso_words.specs.declared.keys.CommandName.{CommandName}

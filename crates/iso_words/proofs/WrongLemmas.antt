@@ -7,8 +7,8 @@ use Rattle.std.specs.String.{string_bytes}
 use Rattle.std.specs.declared.string.String.{String}
 use Rattle.std.proofs.lemmas.Bool.{cases_order}
 use Rattle.std.proofs.lemmas.List.{take_more, take-append-drop, take-take, append_assoc, length-map, get_or-map}
-use Rattle.iso_formats.specs.Commands.{Command as Asked, kind_name, Gives}
-use Rattle.iso_formats.specs.Commands.{GivesNumber, Say, AreRight, BeginRight, IsWrongWord}
+use Rattle.iso_commands.specs.Commands.{Command as Asked, kind_name, Gives}
+use Rattle.iso_commands.specs.Commands.{GivesNumber, Say, AreRight, BeginRight, IsWrongWord}
 use Rattle.iso_words.specs.declared.Command.{Command}
 use Rattle.iso_words.specs.declared.Command.TheVariants.{Generate as generate, Check as check, Extract as extract, Convert as convert, Audit as audit}
 use Rattle.iso_words.specs.declared.keys.CommandName.{CommandName}

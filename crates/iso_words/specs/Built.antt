@@ -2,7 +2,7 @@
 use Rattle.std.specs.Prelude.{ℕ, Bool, true, false, List, map, IsTrue}
 use Rattle.std.specs.String.{string_bytes}
 use Rattle.std.specs.declared.string.String.{String}
-use Rattle.iso_formats.specs.Commands.{Command as Asked, Say, generate_command, check_command, extract_command, convert_command, audit_command}
+use Rattle.iso_commands.specs.Commands.{Command as Asked, Say, generate_command, check_command, extract_command, convert_command, audit_command}
 use Rattle.iso_words.specs.declared.Command.{Command}
 use Rattle.iso_words.specs.declared.Command.TheVariants.{Generate, Check, Extract, Convert, Audit}
 

@@ -6,7 +6,7 @@ use Rattle.std.specs.Option.{option_copied}
 use Rattle.std.specs.Str.{all_ascii_digits}
 use Rattle.iso_model.specs.declared.Kind.{Kind as CellKind}
 use Rattle.iso_model.specs.Cells.{HasDimension}
-use Rattle.iso_formats.specs.Commands.{BeginRight, Say, value_for, has_key_of, kind_name, IsNumber, iso_limit}
+use Rattle.iso_commands.specs.Commands.{BeginRight, Say, value_for, has_key_of, kind_name, IsNumber, iso_limit}
 use Rattle.iso_words.specs.Built.{asked, is_built}
 use Rattle.iso_words.specs.declared.Command.{Command}
 use Rattle.iso_words.specs.declared.Command.TheVariants.{Generate as generate, Check as check, Extract as extract, Convert as convert, Audit as audit}

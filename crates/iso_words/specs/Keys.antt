@@ -2,7 +2,7 @@
 use Rattle.std.specs.Prelude.{◌≡◌, ℕ, Bool, List, [], ◌∷◌, map, Option, Some, None, MatchOption, codes}
 use Rattle.std.specs.List.{list_any}
 use Rattle.lists.specs.Orders.{same_list}
-use Rattle.iso_formats.specs.Commands.{value_for}
+use Rattle.iso_commands.specs.Commands.{value_for}
 use Rattle.iso_words.specs.declared.keys.Key.{Key}
 use Rattle.iso_words.specs.declared.keys.Key.TheVariants.{Kind, Dim, Table, Grid, Iso, Mesh}
 use Rattle.iso_words.specs.declared.keys.CommandName.{CommandName}

@@ -17,7 +17,7 @@
 #![tactic(auto)]
 
 ghost use Rattle.std.specs.Prelude.{◌≡◌, ℕ, IfOk, IfErr, IsOkAnd, IsErrAnd};
-ghost use Rattle.iso_formats.specs.Commands.{Say, IsWrongWord};
+ghost use Rattle.iso_commands.specs.Commands.{Say, IsWrongWord};
 ghost use Rattle.iso_words.specs.Built.{EachSaid, is_built, texts, asked};
 
 mod given;

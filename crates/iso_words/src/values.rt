@@ -6,7 +6,7 @@ ghost use Rattle.std.specs.Bool.{OnTrue, OnFalse};
 ghost use Rattle.std.specs.Str.{all_ascii_digits};
 ghost use Rattle.std.specs.Str.Parse.{starts_with_minus};
 ghost use Rattle.iso_model.specs.Cells.{HasDimension};
-ghost use Rattle.iso_formats.specs.Commands.{is_number, IsNumber};
+ghost use Rattle.iso_commands.specs.Commands.{is_number, IsNumber};
 ghost use Rattle.iso_words.specs.Given.{are_digits_alone, IsKind, IsDimension, IsFile, IsIsovalue, IsKindBeside, IsDimensionBeside};
 ghost use Rattle.iso_words.specs.Keys.{Finds};
 

@@ -1,5 +1,5 @@
 use Rattle.std.proofs.Common.{◌∙◌, ◌<◌, ◌+◌, ℕ, length, List, [], ◌∷◌, ◌++◌, take, arith, ap, sym, subst}
-use Rattle.iso_formats.specs.Commands.{BeginRight, IsWrongWord, Say}
+use Rattle.iso_commands.specs.Commands.{BeginRight, IsWrongWord, Say}
 use Rattle.iso_words.specs.Built.{is_built, texts, asked}
 use Rattle.iso_words.specs.Keys.{name_text}
 use Rattle.iso_words.specs.Given.{Gave}

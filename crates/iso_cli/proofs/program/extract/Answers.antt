@@ -1,6 +1,6 @@
 use Rattle.std.proofs.Common.{rules, FitsSigned, ◌≡◌, w64, to_z, of_z}
 use Rattle.std.proofs.lemmas.Int.{to_z-of_z}
-use Rattle.iso_formats.specs.Commands.{extract_command}
+use Rattle.iso_commands.specs.Commands.{extract_command}
 use Rattle.iso_cli.specs.Checked.{checked_in}
 use Rattle.iso_cli.specs.Outputs.{placed_text}
 use Rattle.iso_cli.specs.Runs.{IsOutput}

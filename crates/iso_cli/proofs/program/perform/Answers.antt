@@ -1,5 +1,5 @@
 use Rattle.std.proofs.Common.{refl}
-use Rattle.iso_formats.specs.Commands.{extract_command}
+use Rattle.iso_commands.specs.Commands.{extract_command}
 use Rattle.iso_words.specs.Built.{texts}
 use Rattle.iso_cli.proofs.Answering.{said_answer}
 use Rattle.iso_cli.proofs.program.perform.Goals as goal

@@ -7,8 +7,8 @@ use Rattle.std.proofs.lemmas.Slice.Eq.{bytes_eq-Decides}
 use Rattle.lists.specs.Orders.{same_list}
 use Rattle.std.proofs.lemmas.List.Sums.{AllPass-from_list_all}
 use Rattle.iso_model.specs.declared.Kind.TheVariants.{Cube, Simplex, Pyramid}
-use Rattle.iso_formats.specs.Commands.{is_number, has_key_of, IsNumber, Say, IsWrongWord, Command, generate_command, check_command, extract_command}
-use Rattle.iso_formats.specs.Commands.{demo_command, convert_command, audit_command, each_command, size_limit, iso_limit}
+use Rattle.iso_commands.specs.Commands.{is_number, has_key_of, IsNumber, Say, IsWrongWord, Command, generate_command, check_command, extract_command}
+use Rattle.iso_commands.specs.Commands.{demo_command, convert_command, audit_command, each_command, size_limit, iso_limit}
 
 leading_zero : IsFalse (is_number (codes "05"))
 leading_zero = refl
