@@ -1,14 +1,14 @@
 -- The faces of simplices as sorted keys, and how often each of them stands among them.
-use Rattle.std.proofs.Common.{Bool, List, [], ap, arith, false, inl, inr, length, refl, subst, suc, sym, true, zero, ℕ, ◌++◌, ◌+◌, ◌<◌, ◌∙◌, ◌∷◌, ◌≡◌}
-use Rattle.std.specs.Prelude.{cond, count_by, map, nat_le, slice_index_or, slice_set, ◌==◌}
+use Rattle.std.proofs.Common.{Bool, List, [], ap, arith, false, inl, inr, length, refl, subst, suc, sym, true, zero, ℕ, ◌++◌, ◌+◌, ◌*◌, ◌<◌, ◌≤◌, ◌∙◌, ◌∷◌, ◌≡◌}
+use Rattle.std.specs.Prelude.{cond, count_by, map, nat_le, slice_index_or, slice_set, take, ◌==◌}
 use Rattle.std.specs.List.{list_any}
 use Rattle.std.specs.List.Sorted.{IsNonDecreasing, IsPermutation}
 use Rattle.std.proofs.lemmas.Bool.{cases_eq}
 use Rattle.std.proofs.lemmas.Bool.Decides.{nat_tests}
-use Rattle.std.proofs.lemmas.List.{append_assoc}
-use Rattle.std.proofs.lemmas.List.FromFn.{map-range_with_len_more}
+use Rattle.std.proofs.lemmas.List.{length-append, take_more, append-nil}
+use Rattle.std.proofs.lemmas.List.FromFn.{length-map-range_with_len}
 use Rattle.std.proofs.lemmas.List.Sums.{sum_by-append}
-use Rattle.std.proofs.lemmas.List.Sorted.{sum_by-IsPermutation}
+use Rattle.std.proofs.lemmas.Grind.{flat_map-append}
 use Rattle.std.proofs.lemmas.Slice.Eq.{bytes_eq-Decides}
 use Rattle.lists.specs.Members.{Distinct, In}
 use Rattle.lists.specs.Orders.{is_distinct, numbers, put_in, same_list, without}
@@ -19,6 +19,7 @@ use Rattle.lists.proofs.Sorting.{bit, count_by-cons, count-map}
 use Rattle.lists.proofs.Tests.{same_tests}
 use Rattle.iso_model.specs.Faces.{face_count, face_without, faces_of, free_face_count, has_face}
 use Rattle.mesh_laws.specs.FaceKeys.{all_faces, is_once, padded}
+use Rattle.mesh_laws.specs.FaceGroups.{once_count}
 use Rattle.mesh_laws.proofs.FaceOf.{In-without, place_left_out}
 use Rattle.mesh_laws.proofs.OnceInLists.{is_sorted}
 use Rattle.mesh_laws.proofs.TakenMembers.{Takes, here, later, Takes-sorted, In-sorted}
@@ -84,7 +85,7 @@ all_count face (w ∷ ws) d =
       all_count face ws (λ v i. d v (inr i)),
     )
 
-count_same : {X : Type 0} (p q : X → Bool) → ((x : X) → p x ≡ q x) → (xs : List X) → count_by p xs ≡ count_by q xs
+pub count_same : {X : Type 0} (p q : X → Bool) → ((x : X) → p x ≡ q x) → (xs : List X) → count_by p xs ≡ count_by q xs
 count_same p q same [] = refl
 count_same p q same (x ∷ xs) = omega (arith, count_by-cons p x xs, count_by-cons q x xs, ap bit (same x), count_same p q same xs)
 
@@ -96,18 +97,39 @@ padded_same f g = same_tests (same_list (padded f) (padded g)) (same_list f g)
     unpadded : (f g : List ℕ) → padded f ≡ padded g → f ≡ g
     unpadded f g e = cc
 
--- the keys that stand once, in any order of them, are as many as the faces of one simplex alone
-pub once_is_free : (ws keys : List (List ℕ)) → ((w : List ℕ) → In w ws → is_distinct w ≡ true) → IsPermutation (map padded (all_faces ws)) keys
-    → count_by (is_once keys) keys ≡ free_face_count ws
-once_is_free ws keys d moved =
-    let listed = map padded (all_faces ws) in
-    sum_by-IsPermutation (λ k. cond (is_once keys k) 1 0) listed keys moved
-    ∙ count-map (is_once keys) padded (all_faces ws)
+-- the keys that stand once are as many as the faces of one simplex alone
+pub once_is_free : (ws : List (List ℕ)) → ((w : List ℕ) → In w ws → is_distinct w ≡ true) → once_count (map padded (all_faces ws)) ≡ free_face_count ws
+once_is_free ws d =
+    let keys = map padded (all_faces ws) in
+    count-map (is_once keys) padded (all_faces ws)
     ∙ count_same (λ f. is_once keys (padded f)) (λ f. face_count ws f == 1) (λ f. ap (λ (n : ℕ). n == 1)
-    (sum_by-IsPermutation (λ k. cond (same_list (padded f) k) 1 0) listed keys moved
-    ∙ count-map (same_list (padded f)) padded (all_faces ws)
+    (count-map (same_list (padded f)) padded (all_faces ws)
     ∙ count_same (λ g. same_list (padded f) (padded g)) (same_list f) (padded_same f) (all_faces ws)
     ∙ all_count f ws d)) (all_faces ws)
+
+-- a simplex has at most as many faces as numbers
+pub few_faces : (w : List ℕ) → length (faces_of w) ≤ length w
+few_faces w = by_test (is_distinct w)
+  where
+    by_test : (b : Bool) → length (cond b (map (face_without w) (numbers (length w))) []) ≤ length w
+    by_test true = omega (arith, length-map-range_with_len (face_without w) 0 (length w))
+    by_test false = omega arith
+
+-- one simplex more
+pub all_more : (ws : List (List ℕ)) (i : ℕ) (w : List ℕ) → i < length ws → w ≡ slice_index_or ws i w
+    → all_faces (take (i + 1) ws) ≡ all_faces (take i ws) ++ faces_of w
+all_more ws i w h e =
+    ap all_faces (take_more ws i w h ∙ ap (λ (v : List ℕ). take i ws ++ v ∷ []) (sym e)) ∙ flat_map-append faces_of (take i ws) (w ∷ [])
+    ∙ ap (λ (fs : List (List ℕ)). all_faces (take i ws) ++ fs) (append-nil (faces_of w))
+
+-- at most d for each
+pub few_more : (ws : List (List ℕ)) (i d : ℕ) (w : List ℕ) → i < length ws → w ≡ slice_index_or ws i w → length (all_faces (take i ws)) ≤ i * d
+    → length (faces_of w) ≤ d → length (all_faces (take (i + 1) ws)) ≤ (i + 1) * d
+few_more ws i d w h e before one =
+    rw (all_more ws i w h e, length-append (all_faces (take i ws)) (faces_of w)) (added i (length (all_faces (take i ws))) one before)
+  where
+    added : (n m : ℕ) {k : ℕ} → k ≤ d → m ≤ n * d → m + k ≤ (n + 1) * d
+    added n m low rest = grind (arith, low, rest)
 
 -- ---- a key
 
@@ -129,16 +151,6 @@ key_is w k ys h moved up =
     is_sorted (slice_set w k 0) ys moved up ∙ Takes-sorted (replaced w k 0 h) ∙ first_put (face_without w k)
 
 -- ---- the lists of keys
-
--- one place more
-pub keys_more : (w : List ℕ) (n : ℕ) (old now : List (List ℕ)) (key : List ℕ) → key ≡ padded (face_without w n)
-    → now ≡ old ++ map (λ i. padded (face_without w i)) (numbers n)
-    → now ++ key ∷ [] ≡ old ++ map (λ i. padded (face_without w i)) (numbers (n + 1))
-keys_more w n old now key e f =
-    let list = map (λ i. padded (face_without w i)) (numbers n) in
-    ap (λ (ks : List (List ℕ)). ks ++ key ∷ []) f ∙ append_assoc old list (key ∷ [])
-    ∙ ap (λ (ks : List (List ℕ)). old ++ ks) (ap (λ (k : List ℕ). list ++ k ∷ []) e
-    ∙ sym (map-range_with_len_more (λ i. padded (face_without w i)) 0 n n (omega arith)))
 
 pub keys_all : (w : List ℕ) (n : ℕ) → is_distinct w ≡ true → n ≡ length w
     → map (λ i. padded (face_without w i)) (numbers n) ≡ map padded (faces_of w)

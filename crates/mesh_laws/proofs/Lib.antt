@@ -7,3 +7,4 @@ pub mod RoundPlaces
 pub mod RoundWalks
 pub mod OnceInLists
 pub mod FaceKeyLists
+pub mod FaceGroupLaws
