@@ -9,7 +9,7 @@ pub mod TableWalkLaws
 pub mod TableFieldLaws
 pub mod TableReadLaws
 pub mod TableFile2Laws
-pub mod TableFile2Cases
+pub mod TableFile2Tests
 pub mod HeaderLaws
 pub mod LineLaws
 pub mod HeaderFaultLaws

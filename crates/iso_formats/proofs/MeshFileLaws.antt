@@ -47,7 +47,7 @@ faces_fit d v f w t e = rw (t, e) refl
 edges_fit : (d v f : ℕ) (w : Word) → is_numeral w.text ≡ true → next_stage (at_edges d v f) w ≡ before_coordinates (empty_body d v f) (v * d)
 edges_fit d v f w t = rw t refl
 
-coordinate_fits : (b : Body) (n : ℕ) (w : Word) → is_coordinate w.text ≡ true → next_stage (at_coordinate b n) w ≡ before_coordinates b n
+pub coordinate_fits : (b : Body) (n : ℕ) (w : Word) → is_coordinate w.text ≡ true → next_stage (at_coordinate b n) w ≡ before_coordinates b n
 coordinate_fits b n w t = rw t refl
 
 passed_fits : (b : Body) (line : ℕ) (w : Word) → w.line ≡ line → next_stage (at_face b (Some line)) w ≡ at_face b (Some line)
@@ -127,7 +127,7 @@ unequal m n h = go (m == n) refl
     go false e = e
 
 -- indices before the last one
-index_goes_on : (b : Body) (ks : List ℕ) (line : ℕ) → length ks < b.dimension → with_index b ks line ≡ at_index b ks
+pub index_goes_on : (b : Body) (ks : List ℕ) (line : ℕ) → length ks < b.dimension → with_index b ks line ≡ at_index b ks
 index_goes_on b ks line h = let t : (length ks == b.dimension) ≡ false = unequal (length ks) b.dimension h in rw t refl
 
 index_ends : (b : Body) (ks : List ℕ) (line : ℕ) → length ks ≡ b.dimension → with_index b ks line ≡ at_face (with_faces b (ks ∷ [])) (Some line)
@@ -172,10 +172,6 @@ face_read words rest b p simplex h u some =
 -- a whole body is one whose faces are all there
 whole_where : (b : Body) → b.faces ≡ length b.simplices → is_whole b ≡ true
 whole_where b e = of_equal (length b.simplices) b.faces (sym e)
-
--- what is answered at a face does not depend on the line that is passed over
-ends_same : (lines : ℕ) (b : Body) (p q : Option ℕ) → ends_at lines (at_face b p) ≡ ends_at lines (at_face b q)
-ends_same lines b p q = refl
 
 faces_read : (lines : ℕ) (ss : List (List ℕ)) (words : List Word) (b : Body) (p : Option ℕ) → HasFaces words b.dimension b.vertices ss []
     → BeginsUnpassed p words → b.faces ≡ length b.simplices + length ss

@@ -179,9 +179,6 @@ right_parts true true n = (refl, refl)
 right_parts true false n = absurd (n refl)
 right_parts false b n = absurd (n refl)
 
-pub field_whole : (kind : Kind) (d : ℕ) (bytes : List ℕ) (f : Field) → ¬ (fails kind d bytes f ≡ true) → place_of bytes d f + width_of f ≤ length bytes
-field_whole kind d bytes f good = le_of _ _ (right_parts (is_uncut bytes d f) (is_right kind d bytes f) good).0
-
 pub field_right : (kind : Kind) (d : ℕ) (bytes : List ℕ) (f : Field) → ¬ (fails kind d bytes f ≡ true) → is_right kind d bytes f ≡ true
 field_right kind d bytes f good = (right_parts (is_uncut bytes d f) (is_right kind d bytes f) good).1
 

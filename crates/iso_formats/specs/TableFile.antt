@@ -10,10 +10,6 @@ use Rattle.iso_model.specs.Tables.{Table, IsTable, IsEntry}
 abbrev pub table_limit : ℕ
 table_limit = 2 ^ 30
 
--- a table file is too long: it has more bytes than that
-abbrev pub IsTooLong : List ℕ → Type 0
-IsTooLong bytes = table_limit < length bytes
-
 -- the byte of a kind
 abbrev pub kind_byte : Kind → ℕ
 kind_byte Cube = 0

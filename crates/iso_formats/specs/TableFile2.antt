@@ -279,9 +279,3 @@ HasOneTable bytes = (t u : Table) → IsTableFile bytes t → IsTableFile bytes 
 -- a file with a fault is no file of a table
 abbrev pub FaultsExclude : List ℕ → Type 0
 FaultsExclude bytes = (fault : FileFault) → HasFileFault bytes fault → ¬ IsWholeFile bytes
-
--- bytes that are no file of a table have exactly one fault
-abbrev pub HasOneFileFault : List ℕ → Type 0
-HasOneFileFault bytes =
-    All (λ b. b < 256) bytes → ¬ IsWholeFile bytes
-    → (fault : FileFault) × HasFileFault bytes fault × ((other : FileFault) → HasFileFault bytes other → other ≡ fault)

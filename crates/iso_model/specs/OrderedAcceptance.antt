@@ -6,7 +6,7 @@ use Rattle.iso_model.specs.declared.Kind.TheVariants.{Simplex}
 use Rattle.lists.specs.Orders.{is_odd, numbers}
 use Rattle.iso_model.specs.Seams.{Seam, seam}
 use Rattle.iso_model.specs.Tables.{Table}
-use Rattle.iso_model.specs.Acceptance.{IsAcceptedOver, IsRefusedOver}
+use Rattle.iso_model.specs.Acceptance.{IsAcceptedOver}
 
 -- the seams of simplices of three dimensions that may meet in any way, each with its corners in the order of the numbers of its vertices: facet j
 -- meets itself and each later facet m, with the same parity where j + m is odd, and with the opposite one where it is even
@@ -21,7 +21,3 @@ pub record IsOfTetrahedron (t : Table) : Type 0 where
 -- each label keeps each rule, the last one over the ordered seams
 abbrev pub IsAcceptedInOrder : Table → Type 0
 IsAcceptedInOrder t = IsAcceptedOver ordered_seams t
-
--- the least label that fails a rule, the last one over the ordered seams, and the least rule that this label fails
-abbrev pub IsRefusedInOrder : Table → ℕ → ℕ → Type 0
-IsRefusedInOrder t label r = IsRefusedOver ordered_seams t label r
