@@ -14,6 +14,7 @@ use Rattle.std.specs.Prelude.{Bool, cond, ◌⊎◌, bit_and, bit_or, count_by, 
 use Rattle.std.specs.Prelude.{ℕ, ◌%◌, ◌&&◌, ◌||◌, ◌*◌, ◌+◌, ◌-◌, ◌/◌, ◌<◌, ◌≤◌, ◌==◌, ◌^◌, ◌≡◌, ◌≢◌}
 use Rattle.lists.specs.Bits.{is_set}
 use Rattle.lists.specs.Orders.{numbers}
+use Rattle.lists.proofs.Bits.{max_bits}
 use Rattle.lists.proofs.Tests.{and_true, or_false}
 
 -- a test as a number
@@ -22,15 +23,6 @@ as_number true = refl
 as_number false = refl
 
 -- ---- or
-
-pub max_bits : (a b : ℕ) → a < 2 → b < 2 → (max a b == 1) ≡ ((a == 1) || (b == 1))
-max_bits zero zero h k = refl
-max_bits zero (suc zero) h k = refl
-max_bits zero (suc (suc b)) h k = absurd (omega arith)
-max_bits (suc zero) zero h k = refl
-max_bits (suc zero) (suc zero) h k = refl
-max_bits (suc zero) (suc (suc b)) h k = absurd (omega arith)
-max_bits (suc (suc a)) b h k = absurd (omega arith)
 
 -- the members of one set or the other
 pub set_or : (a b i : ℕ) → is_set (bit_or a b) i ≡ (is_set a i || is_set b i)

@@ -20,7 +20,7 @@ use Rattle.iso_model.specs.Tables.{IsTuple, Table, entry_of}
 use Rattle.iso_model.specs.Values.{Volume, cells, is_kept, label_of, positive_at}
 use Rattle.iso_model.proofs.BipolarLaws.{Contains-flat_map}
 use Rattle.iso_model.proofs.FaceLaws.{cells_below}
-use Rattle.iso_model.proofs.SignLaws.{either_order, label_bit}
+use Rattle.iso_model.proofs.SignLaws.{bipolar_in_label, label_bit}
 use Rattle.lists.specs.Bits.{is_set}
 use Rattle.lists.specs.Members.{Ascends, AscendsBy, In, IsStrict}
 use Rattle.lists.specs.Orders.{exchange_last, has, is_distinct, numbers}
@@ -81,13 +81,7 @@ counts_cell_edges v fits dim cell e c few bipolar =
 pub bipolar_by_label : (v : Volume) → HasDimension v.kind (length v.sizes) → IsDimension (length v.sizes) → (cell e : ℕ)
     → e < edge_count v.kind (length v.sizes) → is_bipolar v (edge v.kind v.sizes cell e) ≡ is_bipolar_in v.kind (length v.sizes) (label_of v cell) e
 bipolar_by_label v fits dim cell e few =
-    let d : ℕ = length v.sizes in
-    let first : ℕ = (edge_ends v.kind d e).0 in
-    let second : ℕ = (edge_ends v.kind d e).1 in
-    let ends = ordered_ends v.kind d dim fits e few in
-    let low : is_set (label_of v cell) first ≡ positive_at v (corner v.kind v.sizes cell first) = label_bit v cell first (omega (arith, ends.0, ends.1)) in
-    let high : is_set (label_of v cell) second ≡ positive_at v (corner v.kind v.sizes cell second) = label_bit v cell second ends.1 in
-    either_order v (corner v.kind v.sizes cell first) (corner v.kind v.sizes cell second) ∙ (λ i. differ (sym low i) (sym high i))
+    let ends = ordered_ends v.kind (length v.sizes) dim fits e few in bipolar_in_label v cell e (omega (arith, ends.0, ends.1)) ends.1
 
 -- the edges of the tuples of an entry
 pub entry_edges : (v : Volume) (t : Table) (cell : ℕ) → HasBipolarEntry v t cell → (w : List ℕ) → In w (entry_of t (label_of v cell)) → (e : ℕ) → In e w

@@ -14,6 +14,7 @@ use mathlib.Core.Bool.{beq}
 use Rattle.iso_model.specs.Bipolar.{differ}
 use Rattle.edge_sets.specs.Sets.{IsSetOf, is_sound_in, differs}
 use Rattle.lists.specs.Bits.{is_set}
+use Rattle.lists.proofs.Bits.{max_bits}
 use Rattle.lists.proofs.Tests.{or_false}
 use Rattle.lists.proofs.DistinctLists.{has-push, distinct-push, distinct-front}
 
@@ -32,17 +33,8 @@ set_push set more x es s same others e = elim (cases_eq e x) [
       others e h ∙ s e ∙ sym (has-push es x e ∙ ap (λ b. has es e || b) absent ∙ or_false (has es e))
 ]
 
-two_bits : (a b : ℕ) → a < 2 → b < 2 → (max a b == 1) ≡ ((a == 1) || (b == 1))
-two_bits zero zero h k = refl
-two_bits zero (suc zero) h k = refl
-two_bits zero (suc (suc b)) h k = absurd (omega arith)
-two_bits (suc zero) zero h k = refl
-two_bits (suc zero) (suc zero) h k = refl
-two_bits (suc zero) (suc (suc b)) h k = absurd (omega arith)
-two_bits (suc (suc a)) b h k = absurd (omega arith)
-
 pub set_or : (a b e : ℕ) → (max (bit_at a e) (bit_at b e) == 1) ≡ (is_set a e || is_set b e)
-set_or a b e = two_bits (bit_at a e) (bit_at b e) (bit_at-lt a e) (bit_at-lt b e)
+set_or a b e = max_bits (bit_at a e) (bit_at b e) (bit_at-lt a e) (bit_at-lt b e)
 
 -- ---- lists without repeats
 

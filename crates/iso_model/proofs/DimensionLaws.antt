@@ -14,6 +14,12 @@ dimension_cases Cube d h = three_cases d h.0 h.1
 dimension_cases Simplex d h = three_cases d h.0 h.1
 dimension_cases Pyramid d h = inr (inl h)
 
+-- the dimensions of all kinds
+pub HasDimension-limits : (kind : Kind) (d : ℕ) → HasDimension kind d → (2 ≤ d) × (d ≤ 4)
+HasDimension-limits Cube d h = h
+HasDimension-limits Simplex d h = h
+HasDimension-limits Pyramid d h = (omega (arith, h), omega (arith, h))
+
 pub record IsSmallCell (kind : Kind) (d : ℕ) : Type 0 where
   pub corners : corner_count kind d ≤ 16
   pub edges : edge_count kind d ≤ 32

@@ -1,13 +1,13 @@
 -- Signs at the ends of edges, and labels by their bits.
-use Rattle.std.proofs.Common.{◌≡◌, Bool, true, false, refl, ℕ, List, sym, ◌<◌, length, ◌∙◌}
-use Rattle.iso_model.specs.Bipolar.{differ, is_bipolar, same_edge}
+use Rattle.std.proofs.Common.{◌≡◌, Bool, true, false, refl, ℕ, List, sym, ap, ◌<◌, length, ◌∙◌}
+use Rattle.iso_model.specs.Bipolar.{differ, is_bipolar, is_bipolar_in, same_edge}
 use Rattle.std.specs.Prelude.{if◌then◌else◌, map}
 use Rattle.iso_model.specs.Points.{comes_first}
-use Rattle.iso_model.specs.Splits.{edge_of_ends, corner, Edge}
+use Rattle.iso_model.specs.Splits.{edge_of_ends, corner, edge, Edge}
 use Rattle.iso_model.specs.Values.{Volume, positive_at, label_of}
 use Rattle.std.proofs.lemmas.Bool.{false≢true}
 use Rattle.std.specs.Int.{bit_at}
-use Rattle.iso_model.specs.Cells.{corner_count, edge_count, edge_in_facet, facet_edges}
+use Rattle.iso_model.specs.Cells.{corner_count, edge_count, edge_ends, edge_in_facet, facet_edges}
 use Rattle.lists.specs.Bits.{is_set}
 use Rattle.lists.proofs.Bits.{bit_is_test}
 use Rattle.lists.proofs.Powers.{powers_below, powers_bits}
@@ -46,6 +46,16 @@ label_bit v c k h =
     bit_is_test (positive_at v (corner v.kind v.sizes c k))
     (bit_at (powers_below (λ j. positive_at v (corner v.kind v.sizes c j)) (corner_count v.kind (length v.sizes))) k)
     (powers_bits (λ j. positive_at v (corner v.kind v.sizes c j)) (corner_count v.kind (length v.sizes)) k h)
+
+-- an edge of a cell is bipolar where it is in the cell's label
+pub bipolar_in_label : (v : Volume) (cell e : ℕ) → (edge_ends v.kind (length v.sizes) e).0 < corner_count v.kind (length v.sizes)
+    → (edge_ends v.kind (length v.sizes) e).1 < corner_count v.kind (length v.sizes)
+    → is_bipolar v (edge v.kind v.sizes cell e) ≡ is_bipolar_in v.kind (length v.sizes) (label_of v cell) e
+bipolar_in_label v cell e h k =
+    let ends = edge_ends v.kind (length v.sizes) e in
+    either_order v (corner v.kind v.sizes cell ends.0) (corner v.kind v.sizes cell ends.1)
+    ∙ ap (λ (b : Bool). differ b (positive_at v (corner v.kind v.sizes cell ends.1))) (sym (label_bit v cell ends.0 h))
+    ∙ ap (λ (b : Bool). differ (is_set (label_of v cell) ends.0) b) (sym (label_bit v cell ends.1 k))
 
 pub edge_itself : (e : Edge) → same_edge e e ≡ true
 edge_itself e =

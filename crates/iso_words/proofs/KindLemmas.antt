@@ -29,12 +29,6 @@ pos-one m n e = cc
 pub IsDimension-one : (text : List ℕ) (m n : ℕ) → IsDimension text m → IsDimension text n → m ≡ n
 IsDimension-one text m n e f = pos-one m n (sym e.0.1 ∙ f.0.1)
 
--- the dimensions of all kinds
-pub HasDimension-limits : (k : Kind) (d : ℕ) → HasDimension k d → (2 ≤ d) × (d ≤ 4)
-HasDimension-limits Cube d h = h
-HasDimension-limits Simplex d h = h
-HasDimension-limits Pyramid d h = (omega (arith, h), omega (arith, h))
-
 -- ---- a kind beside the dimension that was given, and a dimension beside the kind
 
 pub Stood-kind_beside : (dim : Option ℕ) (o : Option Kind) (values : List (List ℕ)) → Stood IsKind o values → Fit o dim → Stood (IsKindBeside dim) o values

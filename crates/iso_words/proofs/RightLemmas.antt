@@ -20,7 +20,7 @@ use Rattle.iso_words.specs.Keys.{key_text, name_text, own_keys, keys_of, has_key
 use Rattle.iso_words.specs.Given.{IsKind, IsDimension, IsFile, IsIsovalue, Fit, values_of, Stood, Gave, WereGiven, IsWhole, SayNamed, name_of}
 use Rattle.iso_words.specs.declared.Command.{Command}
 use Rattle.iso_words.specs.declared.Command.TheVariants.{Generate as generate, Check as check, Extract as extract, Convert as convert, Audit as audit}
-use Rattle.iso_words.proofs.KindLemmas.{HasDimension-limits}
+use Rattle.iso_model.proofs.DimensionLaws.{HasDimension-limits}
 use Rattle.iso_words.proofs.KeyLemmas.{key_text-one, name_text-one}
 use Rattle.lists.specs.Orders.{same_list}
 use Rattle.lists.proofs.MemberLaws.{lists_equal, same_head}

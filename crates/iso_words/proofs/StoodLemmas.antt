@@ -18,11 +18,6 @@ values_of-some key xs word v e = values_of-append key xs (word ∷ []) ∙ ap (�
 pub values_of-none : (key : List ℕ) (xs : List (List ℕ)) (word : List ℕ) → value_for key word ≡ None → values_of key (xs ++ word ∷ []) ≡ values_of key xs ++ []
 values_of-none key xs word e = values_of-append key xs (word ∷ []) ∙ ap (λ (o : Option (List ℕ)). values_of key xs ++ cons_option o []) e
 
--- a word with another key leaves what stood
-pub Stood-other : {V : Type 0} (P : List ℕ → V → Type 0) (o : Option V) (key : List ℕ) (xs : List (List ℕ)) (word : List ℕ)
-    → value_for key word ≡ None → Stood P o (values_of key xs) → Stood P o (values_of key (xs ++ word ∷ []))
-Stood-other P o key xs word e h = subst (λ (vs : List (List ℕ)). Stood P o vs) (sym (values_of-none key xs word e ∙ append-nil _)) h
-
 -- the first word with the key
 pub Stood-first : {V : Type 0} (P : List ℕ → V → Type 0) (v : V) (key : List ℕ) (xs : List (List ℕ)) (word text : List ℕ)
     → value_for key word ≡ Some text → P text v → Stood P None (values_of key xs) → Stood P (Some v) (values_of key (xs ++ word ∷ []))

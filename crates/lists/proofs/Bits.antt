@@ -7,7 +7,7 @@ use Rattle.std.proofs.lemmas.List.Sums.{sum_by-cons}
 use Rattle.std.proofs.lemmas.Nat.{pow-add, pow_pos}
 use Rattle.std.proofs.lemmas.Nat.Bits.{bit_at-lt, bit_at-pow_other, bit_at-pow_same, bit_at-zero, bit_at_and, bit_at_cat_high, bit_at_cat_low, same_from_bits}
 use Rattle.std.specs.Int.{bit_at}
-use Rattle.std.specs.Prelude.{Bool, List, [], bit_and, false, filter, if◌then◌else◌, min, suc, true, zero, ℕ, ◌%◌, ◌&&◌, ◌*◌, ◌+◌, ◌-◌, ◌<◌, ◌==◌}
+use Rattle.std.specs.Prelude.{Bool, List, [], bit_and, false, filter, if◌then◌else◌, max, min, suc, true, zero, ℕ, ◌%◌, ◌&&◌, ◌*◌, ◌+◌, ◌-◌, ◌<◌, ◌==◌}
 use Rattle.std.specs.Prelude.{◌^◌, ◌||◌, ◌∷◌, ◌≡◌, ◌≢◌, ◌≤◌}
 use Rattle.lists.proofs.Ascending.{Climbs-filter, same_members}
 use Rattle.lists.specs.Bits.{is_set, set_number}
@@ -138,3 +138,13 @@ bit-unset n c e = let l = bit_at-lt n c in let f = eqb-false (bit_at n c) 1 e in
     zero_of zero l f = refl
     zero_of (suc zero) l f = absurd (f refl)
     zero_of (suc (suc b)) l f = absurd (omega arith)
+
+-- the greater of two bits is 1 where one of them is
+pub max_bits : (a b : ℕ) → a < 2 → b < 2 → (max a b == 1) ≡ ((a == 1) || (b == 1))
+max_bits zero zero h k = refl
+max_bits zero (suc zero) h k = refl
+max_bits zero (suc (suc b)) h k = absurd (omega arith)
+max_bits (suc zero) zero h k = refl
+max_bits (suc zero) (suc zero) h k = refl
+max_bits (suc zero) (suc (suc b)) h k = absurd (omega arith)
+max_bits (suc (suc a)) b h k = absurd (omega arith)

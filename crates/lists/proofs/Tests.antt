@@ -15,6 +15,10 @@ pub or_false : (b : Bool) → (b || false) ≡ b
 or_false true = refl
 or_false false = refl
 
+-- a length that is not 0
+pub not_empty : (n : ℕ) (empty : Bool) → empty ≡ (n == 0) → empty ≡ false → 0 < n
+not_empty n empty e f = grind (arith, nat_tests)
+
 pub and_true : (a : Bool) → (a && true) ≡ a
 and_true true = refl
 and_true false = refl

@@ -29,17 +29,6 @@ first_cause kind d bytes (Index p) h f = absurd f
 first_cause kind d bytes (Count p) h f = absurd f
 first_cause kind d bytes Memory h f = tt
 
-pub second_cause : (kind : Kind) (d : ℕ) (bytes : List ℕ) (fault : TableFault) → HasHeadOf 2 bytes kind d → HasBodyCause kind d bytes fault
-    → HasCause bytes fault
-second_cause kind d bytes (Magic p) h f = inr (inr (kind, d, h, f))
-second_cause kind d bytes (KindFault p) h f = inr (inr (kind, d, h, f))
-second_cause kind d bytes (EdgeNumber p) h f = inr (inr (kind, d, h, f))
-second_cause kind d bytes (Short p) h f = inr (inr (kind, d, h, f))
-second_cause kind d bytes (Extra p) h f = inr (inr (kind, d, h, f))
-second_cause kind d bytes (Index p) h f = inr (inr (kind, d, h, f))
-second_cause kind d bytes (Count p) h f = inr (inr (kind, d, h, f))
-second_cause kind d bytes Memory h f = tt
-
 -- the eighth byte is the version's digit
 pub eighth : (v : ℕ) (bytes : List ℕ) (kind : Kind) (d : ℕ) → take 16 bytes ≡ head_bytes v kind d → slice_index bytes 7 ≡ 48 + v
 eighth v bytes kind d same = sym (get_or-take 16 bytes 7 0 (omega arith)) ∙ ap (λ (l : List ℕ). slice_index l 7) same

@@ -16,9 +16,6 @@ pub body_long : (kind : Kind) (d : ℕ) (ws : List (List ℕ)) → IsEntry kind 
 body_long kind d [] s some = absurd (omega (arith, some))
 body_long kind d (w ∷ ws) s some = omega (arith, flat_length kind d (w ∷ ws) s)
 
-pub some_tuples : (n : ℕ) (none : Bool) → none ≡ (n == 0) → none ≡ false → 0 < n
-some_tuples n none e f = grind (arith, nat_tests)
-
 pub record_put : (label place : ℕ) (ws : List (List ℕ)) (before middle after : List ℕ) → 0 < length ws → middle ≡ before ++ big_endian 4 label
     → after ≡ middle ++ big_endian 8 place → after ≡ before ++ record_bytes label place ws
 record_put label place [] before middle after some m a = absurd (omega (arith, some))
