@@ -16,11 +16,10 @@ pub body_long : (kind : Kind) (d : ℕ) (ws : List (List ℕ)) → IsEntry kind 
 body_long kind d [] s some = absurd (omega (arith, some))
 body_long kind d (w ∷ ws) s some = omega (arith, flat_length kind d (w ∷ ws) s)
 
-pub record_put : (label place : ℕ) (ws : List (List ℕ)) (before middle after : List ℕ) → 0 < length ws → middle ≡ before ++ big_endian 4 label
-    → after ≡ middle ++ big_endian 8 place → after ≡ before ++ record_bytes label place ws
-record_put label place [] before middle after some m a = absurd (omega (arith, some))
-record_put label place (w ∷ ws) before middle after some m a =
-    a ∙ ap (λ (l : List ℕ). l ++ big_endian 8 place) m ∙ append_assoc before (big_endian 4 label) (big_endian 8 place)
+pub record_put : (label place : ℕ) (ws : List (List ℕ)) (before after : List ℕ) → 0 < length ws
+    → after ≡ before ++ (big_endian 4 label ++ big_endian 8 place) → after ≡ before ++ record_bytes label place ws
+record_put label place [] before after some a = absurd (omega (arith, some))
+record_put label place (w ∷ ws) before after some a = a
 
 pub next_body : (es : List (List (List ℕ))) (i : ℕ) (x : List (List ℕ)) → i < length es → x ≡ get_or es i []
     → length (flat_map body_bytes (take (i + 1) es)) ≡ length (flat_map body_bytes (take i es)) + length (body_bytes x)

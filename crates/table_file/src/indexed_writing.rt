@@ -1,6 +1,7 @@
 //! Writing the bytes of a table in version 2, with an index and without its empty entries.
 
 ghost use Rattle.std.specs.Prelude.{◌≡◌, ◌*◌, ◌++◌, ◌^◌, ◌≤◌, flat_map, length, IfOk, OnOk};
+ghost use Rattle.iso_formats.specs.TableFile.{big_endian};
 ghost use Rattle.iso_formats.specs.TableFile2.{body_bytes, filled_count, index_bytes, record_bytes, table_bytes2};
 ghost use Rattle.iso_model.specs.Cells.{HasDimension};
 ghost use Rattle.iso_model.specs.Tables.{IsEntry};
@@ -13,14 +14,21 @@ use iso_base::Memory;
 use iso_model::Kind;
 use std::alloc::Global;
 
+/// How much of a table stands in a file of version 2.
+struct Extent {
+    /// How many labels have entries that are not empty.
+    records: usize,
+    /// How many bytes their bodies have.
+    bodies: usize,
+}
+
 /// The bytes of a table in version 2, which [`decode`](crate::decode) reads: an index of the labels whose entries are
 /// not empty, and these entries.
 pub fn encode2<const D: usize>(alloc: Global, table: &Table<D>) -> Result<Vec<u8>, Memory>
     ensures { IfOk result (λ bytes. bytes.items ≡ table_bytes2 table.now) }
 {
-    let records = count_filled(table);
-    let length = index_end(records) + length_of_bodies(table);
-    let Ok(mut bytes) = Vec::with_capacity(alloc, length) else {
+    let Extent { records, bodies } = measure(table);
+    let Ok(mut bytes) = Vec::with_capacity(alloc, index_end(records) + bodies) else {
         return Err(Memory);
     };
     append(&mut bytes, &head(Version::Two, table.kind(), D as u8))?;
@@ -28,21 +36,6 @@ pub fn encode2<const D: usize>(alloc: Global, table: &Table<D>) -> Result<Vec<u8
     append_index(&mut bytes, table, index_end(records) as u64)?;
     append_bodies(&mut bytes, table)?;
     Ok(bytes)
-}
-
-/// How many labels have entries that are not empty.
-fn count_filled<const D: usize>(table: &Table<D>) -> usize
-    ensures is { result ≡ filled_count table.now.entries }
-    ensures few { result ≤ 65536 }
-{
-    let mut count = 0;
-    for label in 0..table.labels() {
-        let filled = !table.tuples(label).is_empty();
-        if filled {
-            count += 1;
-        }
-    }
-    count
 }
 
 /// How many bytes the body of an entry has.
@@ -59,16 +52,24 @@ fn body_length<const D: usize>(kind: Kind, tuples: &[[u8; D]]) -> usize
     }
 }
 
-/// How many bytes the bodies have.
-fn length_of_bodies<const D: usize>(table: &Table<D>) -> usize
-    ensures is { result ≡ length (flat_map body_bytes table.now.entries) }
-    ensures few { result ≤ 65536 * 2 ^ 31 }
+/// How many labels have entries that are not empty, and how many bytes their bodies have.
+fn measure<const D: usize>(table: &Table<D>) -> Extent
+    ensures records { result.records ≡ filled_count table.now.entries }
+    ensures few_records { result.records ≤ 65536 }
+    ensures bodies { result.bodies ≡ length (flat_map body_bytes table.now.entries) }
+    ensures few_bytes { result.bodies ≤ 65536 * 2 ^ 31 }
 {
-    let mut length = 0;
+    let mut records = 0;
+    let mut bodies = 0;
     for label in 0..table.labels() {
-        length += body_length(table.kind(), table.tuples(label));
+        let tuples = table.tuples(label);
+        let filled = !tuples.is_empty();
+        if filled {
+            records += 1;
+        }
+        bodies += body_length(table.kind(), tuples);
     }
-    length
+    Extent { records, bodies }
 }
 
 /// Appends the records of the labels whose entries are not empty, the first of whose bodies stands at `place`.
@@ -101,9 +102,17 @@ fn append_record<const D: usize>(
     if tuples.is_empty() {
         return Ok(());
     }
-    append(bytes, &label.to_be_bytes())?;
-    append(bytes, &place.to_be_bytes())?;
+    append(bytes, &record(label, place))?;
     Ok(())
+}
+
+/// The record of a label whose body stands at `place`: the label in four bytes and the place in eight.
+fn record(label: u32, place: u64) -> [u8; 12]
+    ensures { result ≡ big_endian 4 label ++ big_endian 8 place }
+{
+    let [l0, l1, l2, l3] = label.to_be_bytes();
+    let [p0, p1, p2, p3, p4, p5, p6, p7] = place.to_be_bytes();
+    [l0, l1, l2, l3, p0, p1, p2, p3, p4, p5, p6, p7]
 }
 
 /// Appends the bodies.

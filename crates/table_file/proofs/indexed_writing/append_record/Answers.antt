@@ -5,7 +5,6 @@ use Rattle.table_file.proofs.indexed_writing.append_record.Goals as goal
 
 pub returns : goal.returns
 returns g c =
-    record_put c.args.label c.args.place c.args.tuples.now c.args.bytes.now.items c.append.new.bytes.items c.append-2.new.bytes.items
+    record_put c.args.label c.args.place c.args.tuples.now c.args.bytes.now.items c.append.new.bytes.items
     (not_empty (length c.args.tuples.now) c.is_empty.result c.is_empty.ensures c.if-is_empty.false)
-    (c.in_ok-append.ensures ∙ ap (λ (l : List ℕ). c.args.bytes.now.items ++ l) c.to_be_bytes.ensures)
-    (c.in_ok-append-2.ensures ∙ ap (λ (l : List ℕ). c.append.new.bytes.items ++ l) c.to_be_bytes-2.ensures)
+    (c.in_ok-append.ensures ∙ ap (λ (l : List ℕ). c.args.bytes.now.items ++ l) c.record.ensures)
