@@ -24,14 +24,6 @@ slice-size sizes some last =
     ap (λ n. n / get_or sizes (length sizes - 1) 0) (product-last sizes some)
     ∙ mul-div_cancel (product (take (length sizes - 1) sizes)) (omega (arith, last))
 
--- the slices given and the one that is outstanding have no more samples than all
-pub slices-within : (sizes : List ℕ) (given : ℕ) → 1 ≤ length sizes → given < get_or sizes (length sizes - 1) 0
-    → (given + 1) * product (take (length sizes - 1) sizes) ≤ product sizes
-slices-within sizes given some l =
-    let size = product (take (length sizes - 1) sizes) in
-    let less : (given + 1) * size ≤ get_or sizes (length sizes - 1) 0 * size = mul-le-mul_right size (omega (arith, l)) in
-    omega (arith, less, product-last sizes some)
-
 -- ---- a step
 
 same_test : (m n : ℕ) → m ≡ n → (m == n) ≡ true
