@@ -103,17 +103,6 @@ abbrev pub UnderWay : List Corner → ℕ → List Bool → List ℕ → Option 
 UnderWay corners first met order next =
     (simplices : List (List ℕ)) (k : ℕ) → AreCornersAt simplices k corners → IsUnderWay simplices k corners first met order next
 
-pub sets_out : (corners : List Corner) (first : ℕ) (met : List Bool)
-    → ((i : ℕ) → i < length corners → slice_index_or met i false ≡ false) → UnderWay corners first met [] (Some first)
-sets_out corners first met clear simplices k a = record {
-  begins = λ u us e. absurd (cc);
-  goes_on = λ i d l. absurd (omega (arith, l));
-  once = refl;
-  inside = λ z c. absurd (none_contained z c);
-  leads = refl;
-  marked = clear;
-}
-
 -- one after another, and then one more
 adjacent_more : (R : ℕ → ℕ → Type 0) (x : ℕ) (xs : List ℕ) (y : ℕ) → AllAdjacentBelow R (x ∷ xs) (length (x ∷ xs)) → R (slice_index (x ∷ xs) (length xs)) y
     → AllAdjacentBelow R ((x ∷ xs) ++ y ∷ []) (length ((x ∷ xs) ++ y ∷ []))
@@ -394,10 +383,6 @@ pub goes_further : (corners : List Corner) (first : ℕ) (met : List Bool) (orde
     → UnderWay corners first (slice_set met place true) (order ++ slice_index (numbers_of corners) place ∷ []) next
 goes_further corners first met order place next h m new to w simplices k a =
     step simplices k corners a first met order place next h m new to (w simplices k a)
-
-pub stops_short : (corners : List Corner) (first : ℕ) (met : List Bool) (order : List ℕ) → UnderWay corners first met order None
-    → WalksFrom corners first order None
-stops_short corners first met order w simplices k a = ended simplices k corners a first met order None (w simplices k a) (λ j e. absurd (cc))
 
 pub meets_again : (corners : List Corner) (first : ℕ) (met : List Bool) (order : List ℕ) (place : ℕ) → place < length corners
     → slice_index_or met place false ≡ true → UnderWay corners first met order (Some place) → WalksFrom corners first order (Some place)
