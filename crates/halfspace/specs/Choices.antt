@@ -78,6 +78,10 @@ pub record IsFacetThrough (d : ℕ) (points : List (List ℤ)) (choice : List �
   pub through : All (λ i. bit_at number i ≡ 1) choice
   pub alone : (set : List ℕ) → IsFacet d points set → All (λ i. IsTrue (has set i)) choice → number ≡ set_number set
 
+-- no more was found than the facet through these points: the list is as it was, or that facet's number came to its end
+abbrev pub AddsThrough : ℕ → List (List ℤ) → List ℕ → List ℕ → List ℕ → Type 0
+AddsThrough d points choice old new = (new ≡ old) ⊎ ((number : ℕ) × IsFacetThrough d points choice number × (new ≡ old ++ number ∷ []))
+
 -- from start on, below n, in ascending order
 abbrev pub IsAscending : ℕ → ℕ → List ℕ → Type 0
 IsAscending start n [] = Unit {0}

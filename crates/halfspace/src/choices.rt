@@ -6,7 +6,7 @@ ghost use Rattle.std.specs.Int.{bit_at};
 ghost use Rattle.polynomials.specs.Small.{IsSmall, AreSmall};
 ghost use Rattle.iso_model.specs.Turns.{HasNormal, Holds, slack};
 ghost use Rattle.iso_model.specs.Hulls.{members};
-ghost use Rattle.halfspace.specs.Choices.{AreFacetNumbers, AreSomeFacets, IsTried, AreTried, IsWithinSome, HasNoFacet, IsFacetThrough, TellsInside, TellsOutside, AreBelow};
+ghost use Rattle.halfspace.specs.Choices.{AreFacetNumbers, AreSomeFacets, IsTried, AreTried, IsWithinSome, HasNoFacet, IsFacetThrough, AddsThrough, TellsInside, TellsOutside, AreBelow};
 
 use crate::boundary::{slack, tight};
 use iso_base::Memory;
@@ -133,7 +133,7 @@ fn facet_through<const D: usize>(points: &[[i32; D]], choice: &[usize; D]) -> Op
 /// Adds the set of the facet through D chosen points, where they span a hyperplane, all points lie on one side of it,
 /// and no set has them all. Each set that is there is that of a facet, and none is there twice. The conditions on the
 /// points are those of `plain_facets`, and each chosen number is that of a point. The only error is want of memory; no
-/// set is lost.
+/// set is lost, and none is added but that one, at the end.
 pub fn consider<const D: usize>(
     points: &[[i32; D]],
     choice: &[usize; D],
@@ -148,6 +148,7 @@ pub fn consider<const D: usize>(
     requires known { AreSomeFacets D points.now facets.old.items }
     ensures known { AreSomeFacets D points.now facets.new.items }
     ensures kept { All (Contains facets.new.items) facets.old.items }
+    ensures added { AddsThrough D points.now choice.now facets.old.items facets.new.items }
     ensures tried { OnOk result (IsTried D points.now facets.new.items choice.now) }
 {
     if some_has_all(facets, choice) {
