@@ -1,20 +1,15 @@
 -- One generator after the other, and all.
-use Rattle.std.specs.Prelude.{Bool, false, ◌==◌}
-use Rattle.std.proofs.lemmas.Bool.Decides.{nat_tests}
 use Rattle.std.proofs.Common.{rules, ◌≡◌, ◌∙◌, ◌∷◌, [], ◌++◌, ◌<◌, ℕ, List, length, ap, subst, arith}
 use Rattle.std.proofs.lemmas.List.Elements.{All-set}
+use Rattle.lists.proofs.Tests.{not_empty}
 use Rattle.hull_dd.specs.declared.generators.Generator.{Generator}
 use Rattle.hull_dd.proofs.Starts.{HasOpposites, opposites_first, opposites_more, start_generates}
 use Rattle.hull_dd.proofs.start.start.Goals as goal
 
--- there is a point
-some : (n : ℕ) (b : Bool) → b ≡ (n == 0) → b ≡ false → 0 < n
-some n b e f = grind (arith, nat_tests)
-
 pub loop-k-init : goal.loop-k-init
 loop-k-init g c =
     opposites_first g.row.D c.args.points.now c.spread-corners.result c.push.new.generators.items c.in-Some.first
-    (some (length c.args.points.now) c.is_empty.result c.is_empty.ensures c.if-is_empty.false) c.in-Some.ensures
+    (not_empty (length c.args.points.now) c.is_empty.result c.is_empty.ensures c.if-is_empty.false) c.in-Some.ensures
     (c.in_ok-push.ensures ∙ ap (λ (xs : List (Generator g.row.D)). xs ++ c.in-Some.first ∷ []) c.clear.ensures.items)
 
 pub opposite-requires-in-loop-k : goal.opposite-requires-in-loop-k
@@ -36,7 +31,7 @@ opposite-requires-in-loop-k g c = (
                 c.requires.wide,
                 (
                   All-set (λ i. i < length c.args.points.now) c.spread-corners.result c.loop-k.k 0
-                      (some (length c.args.points.now) c.is_empty.result c.is_empty.ensures c.if-is_empty.false) c.spread-corners.ensures,
+                      (not_empty (length c.args.points.now) c.is_empty.result c.is_empty.ensures c.if-is_empty.false) c.spread-corners.ensures,
                   c.spread-corners.ensures c.loop-k.k 0 (omega arith),
                 ),
               ),
@@ -59,4 +54,4 @@ returns g c =
     start_generates g.row.D c.args.points.now c.spread-corners.result c.set_of.result c.loop-k.generators.items c.set_of.ensures
     (subst (λ (n : ℕ). HasOpposites g.row.D c.args.points.now c.spread-corners.result n c.loop-k.generators.items) (omega arith) c.loop-k.invariant)
     c.spread-corners.ensures
-    (some (length c.args.points.now) c.is_empty.result c.is_empty.ensures c.if-is_empty.false)
+    (not_empty (length c.args.points.now) c.is_empty.result c.is_empty.ensures c.if-is_empty.false)
