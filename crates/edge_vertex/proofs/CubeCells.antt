@@ -20,10 +20,6 @@ use Rattle.edge_vertex.specs.EdgeValue.{IsBipolarOf, IsBipolarEdge}
 use Rattle.edge_vertex.proofs.Added.{InCubes, none_negative, none_positive}
 use Rattle.lists.proofs.Contained.{Contains-filter, any_default, Contains-at, below_contained, contained_below, Contains-filtered}
 
--- a grid has few axes
-pub few_axes : (d : ℕ) → IsDimension d → d ≤ 4
-few_axes = in_each_dimension (λ n. n ≤ 4) (omega arith) (omega arith) (omega arith)
-
 -- the numbers of the mixed cubes
 abbrev pub mixed : Grid → ℤ → List ℕ
 mixed g iso = filter (is_mixed g iso) (numbers (cube_count g.sizes))

@@ -25,7 +25,7 @@ use Rattle.split_laws.proofs.Coordinates.{lists_same, coordinate, cube_below, cu
 use Rattle.split_laws.proofs.SplitTheorems.{small_offsets}
 use Rattle.mixed_cubes.proofs.OffsetCases.{offset_case}
 use Rattle.edge_vertex.specs.EdgeValue.{edge_of, edges_of}
-use Rattle.edge_vertex.proofs.Ascending.{plus_at}
+use Rattle.edge_vertex.proofs.EdgeOrder.{plus_at}
 use Rattle.lists.proofs.Contained.{Contains-at}
 use Rattle.lists.proofs.Tests.{next_below}
 use Rattle.iso_model.proofs.CellCounts.{some_axes}

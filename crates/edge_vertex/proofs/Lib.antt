@@ -6,7 +6,7 @@ pub mod LabelSums
 pub mod Corners
 pub mod EdgePlaces
 pub mod Added
-pub mod Ascending
+pub mod EdgeOrder
 pub mod Listed
 pub mod CubeCells
 pub mod EdgeCount

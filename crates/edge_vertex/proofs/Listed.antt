@@ -13,24 +13,13 @@ use Rattle.iso_model.specs.Bipolar.{differ, is_bipolar, is_bipolar_in, cell_edge
 use Rattle.iso_model.specs.Values.{Volume, cells, is_kept, positive_at, label_of}
 use Rattle.iso_model.proofs.BipolarLaws.{kept_edge-has, length-edge, bipolar_edges-fixed}
 use Rattle.edge_vertex.specs.EdgeValue.{edge_of, edges_of, IsBipolarEdge}
-use Rattle.edge_vertex.proofs.Ascending.{SortedEdges, ascends}
+use Rattle.edge_vertex.proofs.EdgeOrder.{SortedEdges, ascends}
 use Rattle.lists.specs.Bits.{is_set}
 use Rattle.lists.proofs.Contained.{Contains-filter, contained_below, Contains-mapped, from_Contains-map}
 use Rattle.lists.proofs.Contained.{Contains-passes, Contains-filtered, Contains-joined}
-use Rattle.iso_model.proofs.SignLaws.{either_order, label_bit}
+use Rattle.iso_model.proofs.SignLaws.{bipolar_in_label}
 
 -- ---- members of lists that are made of others
-
--- ---- an edge is bipolar where it is in the label
-
-in_label : (v : Volume) (cell e : ℕ) → (edge_ends v.kind (length v.sizes) e).0 < corner_count v.kind (length v.sizes)
-    → (edge_ends v.kind (length v.sizes) e).1 < corner_count v.kind (length v.sizes)
-    → is_bipolar v (Splits.edge v.kind v.sizes cell e) ≡ is_bipolar_in v.kind (length v.sizes) (label_of v cell) e
-in_label v cell e h k =
-    let ends = edge_ends v.kind (length v.sizes) e in
-    either_order v (corner v.kind v.sizes cell ends.0) (corner v.kind v.sizes cell ends.1)
-    ∙ ap (λ (b : Bool). differ b (positive_at v (corner v.kind v.sizes cell ends.1))) (sym (label_bit v cell ends.0 h))
-    ∙ ap (λ (b : Bool). differ (is_set (label_of v cell) ends.0) b) (sym (label_bit v cell ends.1 k))
 
 -- ---- the list
 
@@ -52,7 +41,7 @@ module _ (v : Volume) (n : ℕ) (edges_are : n ≡ edge_count v.kind (length v.s
         let hk : k < edge_count v.kind (length v.sizes) = subst (λ (m : ℕ). k < m) edges_are r.2.1 in
         let ends = inside k hk in
         let is : Splits.edge v.kind v.sizes cell k ≡ e = r.2.2.1 in
-        let bipolar : is_bipolar v e ≡ true = ap (is_bipolar v) (sym is) ∙ in_label v cell k ends.0 ends.1 ∙ r.2.2.0 in
+        let bipolar : is_bipolar v e ≡ true = ap (is_bipolar v) (sym is) ∙ bipolar_in_label v cell k ends.0 ends.1 ∙ r.2.2.0 in
         let in_cell : Contains (cell_edges v cell) e =
         subst (Contains (cell_edges v cell)) is
         (Contains-mapped (Splits.edge v.kind v.sizes cell) (numbers (edge_count v.kind (length v.sizes))) k
@@ -65,7 +54,7 @@ module _ (v : Volume) (n : ℕ) (edges_are : n ≡ edge_count v.kind (length v.s
         let k : ℕ = has.2.0 in
         let ends = inside k has.2.1 in
         let bipolar : is_bipolar_in v.kind (length v.sizes) (label_of v has.0) k ≡ true =
-        sym (in_label v has.0 k ends.0 ends.1) ∙ ap (is_bipolar v) has.2.2 ∙ Contains-passes (is_bipolar v) (kept_edges v) e c in
+        sym (bipolar_in_label v has.0 k ends.0 ends.1) ∙ ap (is_bipolar v) has.2.2 ∙ Contains-passes (is_bipolar v) (kept_edges v) e c in
         (has.0, has.1, (k, subst (λ (m : ℕ). k < m) (sym edges_are) has.2.1, (bipolar, has.2.2)))
 
     pub are_listed : {D : ℕ} (keys : List (Edge D)) → HaveOwnMidpoints v.kind v.sizes

@@ -23,7 +23,7 @@ use Rattle.lists.specs.Bits.{is_set}
 use Rattle.lists.proofs.Contained.{All-from_each, Contains-mapped, Contains-filtered, Contains-joined, contained_below}
 use Rattle.lists.specs.Members.{In}
 use Rattle.lists.proofs.MemberLaws.{In_from, Contains_from, from_filter}
-use Rattle.iso_model.proofs.SignLaws.{either_order, label_bit, edge_itself}
+use Rattle.iso_model.proofs.SignLaws.{bipolar_in_label, edge_itself}
 use Rattle.iso_model.proofs.CellCounts.{some_ranks}
 
 -- ---- the place of a member
@@ -40,17 +40,6 @@ place_of e (d ∷ es) (inr i) = go (same_edge e d) (position_or_len (same_edge e
 pub place_below : (es : List Edge) (e : Edge) → Contains es e → place_in es e < length es
 place_below es e c = place_of e es (In_from es e c)
 
--- ---- an edge is bipolar where it is in the label
-
-in_label : (v : Volume) (cell e : ℕ) → (edge_ends v.kind (length v.sizes) e).0 < corner_count v.kind (length v.sizes)
-    → (edge_ends v.kind (length v.sizes) e).1 < corner_count v.kind (length v.sizes)
-    → is_bipolar v (edge v.kind v.sizes cell e) ≡ is_bipolar_in v.kind (length v.sizes) (label_of v cell) e
-in_label v cell e h k =
-    let ends = edge_ends v.kind (length v.sizes) e in
-    either_order v (corner v.kind v.sizes cell ends.0) (corner v.kind v.sizes cell ends.1)
-    ∙ ap (λ (b : Bool). differ b (positive_at v (corner v.kind v.sizes cell ends.1))) (sym (label_bit v cell ends.0 h))
-    ∙ ap (λ (b : Bool). differ (is_set (label_of v cell) ends.0) b) (sym (label_bit v cell ends.1 k))
-
 -- ---- members of lists that are made of others
 
 from_filtered : {X : Type 0} (p : X → Bool) (xs : List X) (x : X) → Contains (filter p xs) x → Contains xs x × (p x ≡ true)
@@ -63,7 +52,7 @@ pub bipolar_edge-listed : (v : Volume) → HasDimension v.kind (length v.sizes) 
 bipolar_edge-listed v has cell e kept he bipolar =
     let is : IsDimension (length v.sizes) = dimension_cases v.kind (length v.sizes) has in
     let ends = ends_are_corners v.kind (length v.sizes) is has e he in
-    let so : is_bipolar v (edge v.kind v.sizes cell e) ≡ true = in_label v cell e ends.0 ends.1 ∙ bipolar in
+    let so : is_bipolar v (edge v.kind v.sizes cell e) ≡ true = bipolar_in_label v cell e ends.0 ends.1 ∙ bipolar in
     let in_cell : Contains (cell_edges v cell) (edge v.kind v.sizes cell e) =
     Contains-mapped (edge v.kind v.sizes cell) (numbers (edge_count v.kind (length v.sizes))) e
     (contained_below (edge_count v.kind (length v.sizes)) e he) in

@@ -8,7 +8,7 @@ use Rattle.iso_model.proofs.DimensionLaws.{dimension_cases}
 use Rattle.split_laws.proofs.Passed.{ends_are_corners}
 use Rattle.lists.specs.Bits.{is_set}
 use Rattle.lists.proofs.Powers.{powers_few}
-use Rattle.iso_model.proofs.SignLaws.{either_order, label_bit}
+use Rattle.iso_model.proofs.SignLaws.{bipolar_in_label, label_bit}
 
 -- ---- a number by its bits: the same lemmas stand in `Powers` of `mixed_cubes`, which is no crate below
 
@@ -25,8 +25,5 @@ label_few v c = powers_few (λ k. positive_at v (corner v.kind v.sizes c k)) (co
 pub bipolar_local : (v : Volume) → IsRegularVolume v → (c e : ℕ) → e < edge_count v.kind (length v.sizes)
     → is_bipolar_in v.kind (length v.sizes) (label_of v c) e ≡ is_bipolar v (edge v.kind v.sizes c e)
 bipolar_local v regular c e h =
-    let ends = edge_ends v.kind (length v.sizes) e in
     let are = ends_are_corners v.kind (length v.sizes) (dimension_cases v.kind (length v.sizes) regular.fits) regular.fits e h in
-    ap (λ (b : Bool). differ b (is_set (label_of v c) ends.1)) (label_bit v c ends.0 are.0)
-    ∙ ap (λ (b : Bool). differ (positive_at v (corner v.kind v.sizes c ends.0)) b) (label_bit v c ends.1 are.1)
-    ∙ sym (either_order v (corner v.kind v.sizes c ends.0) (corner v.kind v.sizes c ends.1))
+    sym (bipolar_in_label v c e are.0 are.1)

@@ -13,7 +13,8 @@ use Rattle.cube_cells.specs.SignedCubes.{IsSignedCube}
 use Rattle.edge_vertex.specs.EdgeValue.{edges_of, Adds, IsBipolarEdge}
 use Rattle.edge_vertex.proofs.Added.{InCubes, no_cubes, next_cube, from_nothing}
 use Rattle.edge_vertex.proofs.Listed.{both_ways}
-use Rattle.edge_vertex.proofs.CubeCells.{few_axes, mixed, mixed_place, mixed_place-stands, all_in_mixed}
+use Rattle.iso_model.proofs.CellCounts.{few_axes}
+use Rattle.edge_vertex.proofs.CubeCells.{mixed, mixed_place, mixed_place-stands, all_in_mixed}
 use Rattle.edge_vertex.proofs.found.all_bipolar.Goals as goal
 
 pub new-steps-requires : goal.new-steps-requires

@@ -1,5 +1,5 @@
 use Rattle.std.proofs.Common.{arith}
-use Rattle.edge_vertex.proofs.Ascending.{reversed_is}
+use Rattle.edge_vertex.proofs.EdgeOrder.{reversed_is}
 use Rattle.edge_vertex.proofs.found.reversed_sum.Goals as goal
 
 pub returns : goal.returns

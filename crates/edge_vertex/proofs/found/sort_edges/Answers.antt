@@ -3,7 +3,7 @@ use Rattle.std.proofs.lemmas.List.Sorted.{answers_always}
 use Rattle.grid_split.specs.contracts.split.EdgePartialEq.TheImpl.{eq-value}
 use denote.Param.{number}
 use Rattle.edge_vertex.specs.EdgeValue.{order_of}
-use Rattle.edge_vertex.proofs.Ascending.{all_apart}
+use Rattle.edge_vertex.proofs.EdgeOrder.{all_apart}
 use Rattle.edge_vertex.proofs.found.sort_edges.Goals as goal
 
 pub returns-in-Ok-clause-sorted : goal.returns-in-Ok-clause-sorted

@@ -7,7 +7,7 @@ use Rattle.iso_model.specs.Bipolar.{is_bipolar_in, place_in}
 use Rattle.iso_model.specs.Cells.{edge_count}
 use Rattle.iso_model.proofs.DimensionLaws.{is_small_cell}
 use Rattle.edge_vertex.specs.EdgeValue.{edge_of}
-use Rattle.edge_vertex.proofs.CubeCells.{few_axes}
+use Rattle.iso_model.proofs.CellCounts.{few_axes}
 use Rattle.mesh_placing.specs.Placing.{ArePlaces}
 use Rattle.mesh_placing.proofs.FilledLists.{set_next}
 use Rattle.mesh_placing.proofs.places.cell_places.Goals as goal

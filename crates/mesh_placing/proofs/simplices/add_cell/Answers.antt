@@ -7,7 +7,7 @@ use Rattle.iso_model.specs.Tables.{IsEntry, entry_of}
 use Rattle.iso_model.specs.Acceptance.{rule_edges}
 use Rattle.iso_model.specs.Placed.{placed_tuple}
 use Rattle.iso_model.proofs.DimensionLaws.{is_small_cell, dimension_cases}
-use Rattle.edge_vertex.proofs.CubeCells.{few_axes}
+use Rattle.iso_model.proofs.CellCounts.{few_axes}
 use Rattle.mesh_placing.specs.Placing.{ArePlaces, placed_tuples}
 use Rattle.mesh_placing.proofs.Cubes.{odd_in_cube}
 use Rattle.mesh_placing.proofs.PlacedTuples.{placed_by_places}

@@ -9,7 +9,7 @@ use Rattle.iso_model.specs.Bipolar.{bipolar_edges}
 use Rattle.iso_model.specs.Tables.{entry_of}
 use Rattle.iso_model.specs.Acceptance.{rule_edges}
 use Rattle.iso_model.specs.Placed.{cell_simplices}
-use Rattle.edge_vertex.proofs.CubeCells.{few_axes}
+use Rattle.iso_model.proofs.CellCounts.{few_axes}
 use Rattle.mesh_placing.specs.Placing.{ListsEdges, HasListedEdges, placed_tuples}
 use Rattle.mesh_placing.proofs.Cubes.{cube_inside}
 use Rattle.mesh_placing.proofs.FilledLists.{flat_map-range_more}

@@ -7,7 +7,8 @@ use Rattle.iso_model.specs.Bipolar.{bipolar_edges}
 use Rattle.iso_model.specs.Placed.{cell_simplices}
 use Rattle.mixed_cubes.specs.declared.cubes.CubePlace.{CubePlace}
 use Rattle.mixed_cubes.specs.CubePlaces.{place_of}
-use Rattle.edge_vertex.proofs.CubeCells.{few_axes, mixed, mixed_place, mixed_place-stands}
+use Rattle.iso_model.proofs.CellCounts.{few_axes}
+use Rattle.edge_vertex.proofs.CubeCells.{mixed, mixed_place, mixed_place-stands}
 use Rattle.mesh_placing.specs.Placing.{cube_cells}
 use Rattle.mesh_placing.proofs.Cubes.{mixed_simplices}
 use Rattle.mesh_placing.proofs.FilledLists.{flat_map-take_more}
