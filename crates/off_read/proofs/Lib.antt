@@ -1,8 +1,8 @@
 pub mod LineWords
 pub mod MeshLaws
 pub mod OffLaws
-pub mod ReadingLaws
+pub mod UnreadBytes
 pub mod SeeLaws
 pub mod StageLaws
 pub mod TakingLaws
-pub mod WordLaws
+pub mod KnownWords

@@ -62,10 +62,6 @@ words-gap c text g e =
     ap (λ (l : List ℕ). filter is_filled (slice_split is_gap l)) (cut-keeps c text e)
     ∙ ap (filter is_filled) (slice_split-cons_yes is_gap c (before_first (nat_eq 35) text) g)
 
--- nor does a comment
-pub words-hash : (text : List ℕ) → words_on (35 ∷ text) ≡ []
-words-hash text = refl
-
 -- a word before a gap
 pub words-word : (x : ℕ) (w text : List ℕ) (c : ℕ) → list_all is_word_byte (x ∷ w) ≡ true → is_gap c ≡ true → nat_eq 35 c ≡ false
     → words_on ((x ∷ w) ++ c ∷ text) ≡ (x ∷ w) ∷ words_on text

@@ -13,7 +13,7 @@ use Rattle.off_read.specs.Meshes.{AsksCount, IsUnended, at_next_face, body_with}
 use Rattle.off_read.specs.WordForms.{Known}
 use Rattle.off_read.specs.declared.reader.Place.{Place}
 use Rattle.off_read.specs.declared.reader.Place.TheVariants.{LineStart, OnLine, Passing}
-use Rattle.off_read.proofs.ReadingLaws.{passed-line, passed-start}
+use Rattle.off_read.proofs.UnreadBytes.{passed-line, passed-start}
 use Rattle.off_read.proofs.StageLaws.{goes_word, refuses_at}
 use Rattle.off_read.proofs.TakingLaws.{told_map}
 
@@ -79,9 +79,6 @@ pub coordinate_asked : (b : Body) (n : ℕ) → 0 < n → before_coordinates b n
 coordinate_asked b zero h = absurd (omega (arith, h))
 coordinate_asked b (suc n) h = ap (at_coordinate b) (let e : n ≡ suc n - 1 = omega arith in e)
 
-pub coordinate_taken : (b : Body) (n : ℕ) (w : Word) → is_coordinate w.text ≡ true → next_stage (at_coordinate b n) w ≡ before_coordinates b n
-coordinate_taken b n w t = rw t refl
-
 pub coordinate_refused : (b : Body) (n : ℕ) (w : Word) → is_coordinate w.text ≡ false → next_stage (at_coordinate b n) w ≡ stopped (wrong_coordinate w.line)
 coordinate_refused b n w t = rw t refl
 
@@ -90,20 +87,9 @@ coordinates_unended b n h k = ap (ends_at k) (coordinate_asked b n h)
 
 -- ---- faces
 
-pub face_begins : (d v f : ℕ) (ss : List (List ℕ)) (w : Word) → length ss < f → is_size d w.text ≡ true
-    → next_stage (at_next_face d v f ss) w ≡ at_index (body_with d v f ss) []
-face_begins d v f ss w h t = let u : is_whole (body_with d v f ss) ≡ false = unequal (length ss) f h in rw (u, t) refl
-
 pub face_refused : (d v f : ℕ) (ss : List (List ℕ)) (w : Word) → length ss < f → is_size d w.text ≡ false
     → next_stage (at_next_face d v f ss) w ≡ stopped (wrong_size w.line)
 face_refused d v f ss w h t = let u : is_whole (body_with d v f ss) ≡ false = unequal (length ss) f h in rw (u, t) refl
-
-pub face_unended : (d v f : ℕ) (ss : List (List ℕ)) → length ss < f → IsUnended (at_next_face d v f ss)
-face_unended d v f ss h n = let u : is_whole (body_with d v f ss) ≡ false = unequal (length ss) f h in rw u refl
-
--- before the last index of a face another one is asked for
-pub index_asked : (b : Body) (ks : List ℕ) (line : ℕ) → length ks < b.dimension → with_index b ks line ≡ at_index b ks
-index_asked b ks line h = let t : (length ks == b.dimension) ≡ false = unequal (length ks) b.dimension h in rw t refl
 
 pub face_ends : (d v f : ℕ) (ss : List (List ℕ)) (ks : List ℕ) (line : ℕ) → length ks ≡ d
     → with_index (body_with d v f ss) ks line ≡ at_face (body_with d v f (ss ++ ks ∷ [])) (Some line)

@@ -14,7 +14,7 @@ use Rattle.off_read.specs.ScanForms.{Scan}
 use Rattle.off_read.specs.Scans.{mark, reading_from, reading_in, lines_passed, is_passing, is_word_byte, IsInWord, Sees}
 use Rattle.off_read.specs.WordForms.{IsSoFar, Known}
 use Rattle.off_read.proofs.LineWords.{no_feed, filled, words-gap, words-word, words-comment, words-end}
-use Rattle.off_read.proofs.ReadingLaws.{same-front, word-front, empty-line, line-without, line-with, last-word, no-bytes, no-words}
+use Rattle.off_read.proofs.UnreadBytes.{same-front, word-front, empty-line, line-without, line-with, last-word, no-bytes, no-words}
 
 not_feed : (c : ℕ) → is_word_byte c ≡ true → not (c == 10) ≡ true
 not_feed c h = ap not (no_feed c h)

@@ -81,13 +81,5 @@ ends_as_then a b c r s t before mid d v ss h k = record {
   reads = told_then a b c _ _ _ (λ x y z p q. p ∙ q) h.reads k.reads;
 }
 
--- where nothing was read
-pub goes_none : (a : Option (List ℕ)) (s : Scan) (stage : Stage) → s.taken ≤ limit → Goes a a s s stage stage
-goes_none a s stage few = record {
-  takes = (takes_none a s s refl, few);
-  spends = omega arith;
-  reads = told_same a _ (λ x. refl);
-}
-
 pub goes_same : (a b : Option (List ℕ)) (old new : Scan) (before mid after : Stage) → mid ≡ after → Goes a b old new before mid → Goes a b old new before after
 goes_same a b old new before mid after e g = subst (λ (s : Stage). Goes a b old new before s) e g

@@ -1,8 +1,9 @@
 -- Calls of a reader, one after another.
 use Rattle.std.specs.Prelude.{◌≡◌, ℕ, suc, ◌+◌, ◌-◌, ◌<◌, ◌≤◌, true, false, List, [], ◌∷◌, ◌++◌, length, take, drop, slice_index, Option, Some, None}
 use Rattle.std.specs.Io.KnownBytes.{Consumes, IsAtEnd}
+use Rattle.std.proofs.KnownBytes.{Consumes-trans}
 use Rattle.std.proofs.Common.{refl, ap, sym, ◌∙◌, arith, subst}
-use Rattle.std.proofs.lemmas.List.{append_assoc, length-append}
+use Rattle.std.proofs.lemmas.List.{length-append}
 use Rattle.std.proofs.Math.Seq.{drop-cons}
 use Rattle.iso_formats.specs.MeshFile.{Stage, next_stage}
 use Rattle.off_read.specs.declared.faults.OffFault.{OffFault}
@@ -38,12 +39,6 @@ told_same (Some x) P f = f x
 
 -- ---- bytes that came
 
-consumes_then : (a b c : Option (List ℕ)) (xs ys : List ℕ) → Consumes a b xs → Consumes b c ys → Consumes a c (xs ++ ys)
-consumes_then None b c xs ys h k = tt
-consumes_then (Some x) None c xs ys h k = absurd h
-consumes_then (Some x) (Some y) None xs ys h k = k
-consumes_then (Some x) (Some y) (Some z) xs ys h k = h ∙ ap (λ (l : List ℕ). xs ++ l) k ∙ sym (append_assoc xs ys z)
-
 consumes_none : (a : Option (List ℕ)) → Consumes a a []
 consumes_none None = tt
 consumes_none (Some x) = refl
@@ -51,7 +46,7 @@ consumes_none (Some x) = refl
 pub takes_then : (a b c : Option (List ℕ)) (r s t : Scan) → Takes a b r s → Takes b c s t → Takes a c r t
 takes_then a b c r s t h k =
     let n = length-append h.came k.came in
-    record { came = h.came ++ k.came; consumed = consumes_then a b c h.came k.came h.consumed k.consumed; counted = omega (arith, n, h.counted, k.counted) }
+    record { came = h.came ++ k.came; consumed = Consumes-trans a b c h.came k.came h.consumed k.consumed; counted = omega (arith, n, h.counted, k.counted) }
 
 pub takes_few : (a b c : Option (List ℕ)) (r s t : Scan) → Takes a b r s → TakesFew b c s t → TakesFew a c r t
 takes_few a b c r s t h k = (takes_then a b c r s t h k.0, k.1)
@@ -84,21 +79,6 @@ gives_next a b old mid new byte r e same t i =
       before = let k = same.0 in omega (arith, n, k, t, i);
     }
 
-pub finds_none : (a b : Option (List ℕ)) (old new : Scan) → Refills a b old new false → FindsNone a b old new
-finds_none a b old new r =
-    let e = r.none refl in
-    let n = ap (λ (l : List ℕ). length l) e.0 in
-    let c = r.takes.0.counted in
-    let d = r.counted in
-    record {
-      takes = r.takes;
-      same = r.same;
-      end = e.1;
-      none = told_end a b _ _ (λ x h. h ∙ ap (λ (l : List ℕ). l ++ []) e.0) e.1 r.came;
-      left = e.0;
-      spends = omega (arith, n, c, d);
-    }
-
 -- ---- failures
 
 pub fails_then : (a b c : Option (List ℕ)) (r s t : Scan) (fault : OffFault) → Takes a b r s → Fails b c s t fault → Fails a c r t fault
@@ -114,17 +94,6 @@ fails_then a b c r s t (Short n) h k = k
 fails_then a b c r s t Memory h k = k
 
 -- ---- a word that has begun, or none
-
-pub reads_start : (a : Option (List ℕ)) (s : Scan) (word : Known) → s.taken ≤ limit → IsSoFar word [] → ReadsOn a a s s word
-reads_start a s word few so = record {
-  takes = (takes_none a s s refl, few);
-  text = [];
-  known = so;
-  begun = record { right = refl; standing = λ h. absurd (omega (arith, h)) };
-  spends = omega arith;
-  spends_more = λ h. absurd (omega (arith, h));
-  reads = told_same a _ (λ x stage. refl);
-}
 
 -- a byte is given, and seen, and the word goes on or none has begun
 same_in : (s t : Scan) (text : List ℕ) (stage : Stage) (bytes : List ℕ) → IsSameLine s t → reading_in s text stage bytes ≡ reading_in t text stage bytes

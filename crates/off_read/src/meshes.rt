@@ -230,7 +230,8 @@ fn read_faces<S: Shelf, const D: usize>(
     ensures counted { IfOk result (λ simplices. length simplices.items ≡ faces) }
     ensures spends { IfOk result (λ simplices. length simplices.items + budget reader.new ≤ budget reader.old) }
     ensures below { IfOk result (λ simplices. All (All (λ i. i < vertices)) simplices.items) }
-    ensures fails { IfErr result (FailsFaces D vertices faces (S.rest shelf.old) (S.rest shelf.new) reader.old reader.new) }
+    ensures fails { IfErr result
+        (FailsFaces D vertices faces (S.rest shelf.old) (S.rest shelf.new) reader.old reader.new) }
 {
     let mut simplices = Vec::new(alloc);
     while simplices.len() < faces as usize {

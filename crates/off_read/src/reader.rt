@@ -49,9 +49,15 @@ impl Model for Reader {
 
     ghost Value = { Scans.Scan };
 
-    ghost view = { λ r. record { left = take (r.end - r.start) (drop r.start r.piece); taken = r.taken; ended = r.ended; place = r.place } };
+    ghost view = { λ r. record {
+      left = take (r.end - r.start) (drop r.start r.piece);
+      taken = r.taken;
+      ended = r.ended;
+      place = r.place;
+    } };
 
-    ghost invariant = { λ r. (r.start ≤ r.end) × (r.end ≤ 65536) × (r.ended + (r.end - r.start) ≤ r.taken) × (r.taken ≤ Scans.limit + 1) };
+    ghost invariant = { λ r. (r.start ≤ r.end) × (r.end ≤ 65536)
+        × (r.ended + (r.end - r.start) ≤ r.taken) × (r.taken ≤ Scans.limit + 1) };
 }
 
 impl Reader {

@@ -34,7 +34,14 @@ impl Model for Word {
 
     ghost Value = { Known };
 
-    ghost view = { λ w. record { line = w.line; front = w.front.items; value = w.value; all_digits = w.all_digits; some_digit = w.some_digit; coordinate = w.coordinate } };
+    ghost view = { λ w. record {
+      line = w.line;
+      front = w.front.items;
+      value = w.value;
+      all_digits = w.all_digits;
+      some_digit = w.some_digit;
+      coordinate = w.coordinate;
+    } };
 
     ghost invariant = { λ w. w.value ≤ 2 ^ 32 };
 }

@@ -4,7 +4,8 @@ use Rattle.iso_base.proofs.SameShelf.{IsSameShelf-then}
 use Rattle.iso_formats.specs.MeshFile.{Word, Stage, before_coordinates, next_stage, is_coordinate, wrong_coordinate}
 use Rattle.off_read.specs.Scans.{Goes}
 use Rattle.off_read.specs.WordForms.{Known}
-use Rattle.off_read.proofs.MeshLaws.{coordinate_asked, coordinate_taken, coordinate_refused, coordinates_unended}
+use Rattle.iso_formats.proofs.MeshFileLaws.{coordinate_fits}
+use Rattle.off_read.proofs.MeshLaws.{coordinate_asked, coordinate_refused, coordinates_unended}
 use Rattle.off_read.proofs.StageLaws.{goes_word, goes_then, refuses_at, refuses_then, fails_at_then, early}
 use Rattle.off_read.proofs.meshes.read_coordinates.Goals as goal
 
@@ -40,7 +41,7 @@ loop-left-preserved g c =
           (c.loop-left.invariant.goes b)
           (goes_word _ _ c.loop-left.reader c.expect_word.new.reader c.in_ok-word.word word (before_coordinates b c.loop-left.left)
           (before_coordinates b (c.loop-left.left - 1))
-          (ap (λ (s : Stage). next_stage s w) (coordinate_asked b c.loop-left.left c.loop-left-test.true) ∙ coordinate_taken b (c.loop-left.left - 1) w yes));
+          (ap (λ (s : Stage). next_stage s w) (coordinate_asked b c.loop-left.left c.loop-left-test.true) ∙ coordinate_fits b (c.loop-left.left - 1) w yes));
     }
 
 pub returns-clause-gives : goal.returns-clause-gives

@@ -9,7 +9,8 @@ use Rattle.off_read.specs.ScanForms.{Scan}
 use Rattle.off_read.specs.Scans.{Goes, lines_passed}
 use Rattle.off_read.specs.Meshes.{at_next_face, body_with}
 use Rattle.off_read.specs.WordForms.{Known}
-use Rattle.off_read.proofs.MeshLaws.{face_refused, index_asked, face_ends, goes_passed}
+use Rattle.iso_formats.proofs.MeshFileLaws.{index_goes_on}
+use Rattle.off_read.proofs.MeshLaws.{face_refused, face_ends, goes_passed}
 use Rattle.off_read.proofs.StageLaws.{goes_then, goes_same, refuses_at, fails_at_then}
 use Rattle.off_read.proofs.meshes.read_face.Goals as goal
 
@@ -28,7 +29,7 @@ returns-in_err-simplex-clause-fails g c =
     rw (p.1, p.2) (λ f ss h.
     let b : Body = body_with g.row.D c.args.vertices f ss in
     fails_at_then _ _ _ c.args.reader.now c.loop-place.reader c.read_index.new.reader _ (at_index b ks) _
-    (goes_same _ _ _ _ _ _ (at_index b ks) (index_asked b ks (lines_passed c.loop-place.reader) few) (c.loop-place.invariant.goes f ss h))
+    (goes_same _ _ _ _ _ _ (at_index b ks) (index_goes_on b ks (lines_passed c.loop-place.reader) few) (c.loop-place.invariant.goes f ss h))
     (c.in_err-simplex.ensures.fails b ks refl))
 
 pub loop-place-preserved : goal.loop-place-preserved
@@ -50,7 +51,7 @@ loop-place-preserved g c =
           (ap (λ (l : List ℕ). with_index b l line)
           (sym (take_more_set s c.loop-place.place c.in_ok-simplex.field-0 (omega (arith, c.loop-place.invariant.long, c.loop-place-test.true)))))
           (goes_then _ _ _ c.args.reader.now c.loop-place.reader c.read_index.new.reader _ (at_index b ks) _
-          (goes_same _ _ _ _ _ _ (at_index b ks) (index_asked b ks (lines_passed c.loop-place.reader) few) (c.loop-place.invariant.goes f ss h))
+          (goes_same _ _ _ _ _ _ (at_index b ks) (index_goes_on b ks (lines_passed c.loop-place.reader) few) (c.loop-place.invariant.goes f ss h))
           (c.in_ok-simplex.ensures.gives b ks refl));
     }
 

@@ -1,6 +1,6 @@
 use Rattle.std.proofs.Common.{ap, ◌∙◌, ◌^◌}
 use Rattle.off_read.specs.WordForms.{below}
-use Rattle.off_read.proofs.WordLaws.{counted}
+use Rattle.off_read.proofs.KnownWords.{counted}
 use Rattle.off_read.proofs.words.Word.count.Goals as goal
 
 pub returns : goal.returns

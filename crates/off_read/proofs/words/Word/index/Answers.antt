@@ -1,6 +1,6 @@
 use Rattle.std.proofs.Common.{ap, arith, ◌∙◌}
 use Rattle.off_read.specs.WordForms.{below}
-use Rattle.off_read.proofs.WordLaws.{indexed}
+use Rattle.off_read.proofs.KnownWords.{indexed}
 use Rattle.off_read.proofs.words.Word.index.Goals as goal
 
 pub returns : goal.returns

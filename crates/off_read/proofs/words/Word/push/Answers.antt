@@ -1,6 +1,6 @@
 use Rattle.std.proofs.Common.{ap, ◌≡◌}
 use Rattle.off_read.specs.WordForms.{Known}
-use Rattle.off_read.proofs.WordLaws.{pushed}
+use Rattle.off_read.proofs.KnownWords.{pushed}
 use Rattle.off_read.proofs.words.Word.push.Goals as goal
 
 pub returns : goal.returns

@@ -9,10 +9,6 @@ use Rattle.iso_formats.specs.MeshFile.{Body, at_face, at_index, stopped, extra_w
 use Rattle.iso_formats.specs.MeshFile.{Word, Stage, MeshReading, lines_of, words_on, words_from, next_stage, stage_behind, ends_at}
 use Rattle.off_read.specs.Scans.{reading_from}
 
--- no line ends within the bytes
-pub is_unbroken : List ℕ → Bool
-is_unbroken text = list_all (λ c. not (c == 10)) text
-
 -- the first of lines, and the others
 first_of : List (List ℕ) → List ℕ
 first_of [] = []
