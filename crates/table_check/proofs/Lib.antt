@@ -1,4 +1,3 @@
 mod EmptyEntries
-mod OrderedSeams
 mod PieceVerdicts
 mod RuleOrder
