@@ -9,6 +9,7 @@ use Rattle.std.proofs.lemmas.Option.{none-some, same_Some}
 use Rattle.iso_base.specs.declared.outside.Failed.{Failed}
 use Rattle.iso_base.specs.Files.{Files, bytes_of, BeginsFile}
 use Rattle.std.specs.Io.KnownBytes.{Consumes}
+use Rattle.std.proofs.KnownBytes.{Consumes-trans}
 use Rattle.iso_formats.specs.TableFile.{table_limit}
 use Rattle.iso_formats.specs.TableFile2.{IsFileTooLong, IsTableFile, limit_of, table_limit2}
 use Rattle.iso_model.specs.Tables.{IsTable, Table}
@@ -16,13 +17,6 @@ use Rattle.nrrd_raw.specs.Undecided.{TakesSuch}
 use Rattle.iso_base.specs.Shelves.{TakesAtMost}
 use Rattle.iso_cli.specs.Rests.{IsTableFront}
 use Rattle.iso_cli.specs.Shelves.{AreFrontOf}
-
--- some bytes, and then more of them
-pub Consumes_more : (a b c : Option (List ℕ)) (xs ys : List ℕ) → Consumes a b xs → Consumes b c ys → Consumes a c (xs ++ ys)
-Consumes_more None b c xs ys p q = tt
-Consumes_more (Some a) None c xs ys p q = absurd p
-Consumes_more (Some a) (Some b) None xs ys p q = absurd q
-Consumes_more (Some a) (Some b) (Some c) xs ys p q = let f = append_assoc xs ys c in cc
 
 -- a front that is shorter than asked is all
 short-front : (n : ℕ) (rest : List ℕ) → length (take (n + 1) rest) ≤ n → length rest ≤ n
@@ -84,7 +78,7 @@ AreFrontOf_longer (Some a) xs m n p short h =
 -- some bytes were taken, and then more, of which this holds behind them
 pub TakesSuch_more : (P Q : List ℕ → Type 0) (a b c : Option (List ℕ)) (xs : List ℕ) → ((ys : List ℕ) → P ys → Q (xs ++ ys)) → Consumes a b xs
     → TakesSuch P b c → TakesSuch Q a c
-TakesSuch_more P Q a b c xs go first then' = (xs ++ then'.0, go then'.0 then'.1, Consumes_more a b c xs then'.0 first then'.2)
+TakesSuch_more P Q a b c xs go first then' = (xs ++ then'.0, go then'.0 then'.1, Consumes-trans a b c xs then'.0 first then'.2)
 
 -- few bytes are within the limit and one byte
 pub front_below : (a b : Option (List ℕ)) → TakesAtMost (2 ^ 30 + 1) a b → TakesSuch IsTableFront a b
@@ -96,7 +90,7 @@ pub front_more : (a b c : Option (List ℕ)) (xs : List ℕ) (most : ℕ) → le
 front_more a b c xs most count is first taken = (
   xs ++ taken.0,
   omega (arith, count, is, taken.1, limit_front xs taken.0 (omega (arith, count)), length-append xs taken.0, limit_least xs),
-  Consumes_more a b c xs taken.0 first taken.2,
+  Consumes-trans a b c xs taken.0 first taken.2,
 )
 
 -- a file of which more was read than its limit has that limit, and is too long

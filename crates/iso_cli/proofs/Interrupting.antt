@@ -28,12 +28,6 @@ use Rattle.iso_cli.proofs.Refusing.{behind_header, file_has}
 
 -- ---- what was taken
 
--- where no file could be begun, none is
-pub begin_failed : {E : Type 0} (files : Option Files) (name : List ℕ) (rest : Option (List ℕ)) (e : E) (P : List ℕ → Type 0)
-    → BeginsFile files rest name (Err e) → IsTakenFrom files name rest P
-begin_failed None name rest e P none = tt
-begin_failed (Some files) name rest e P none = inl none
-
 -- what was taken of a file that was begun
 pub taken_of : (files : Option Files) (name : List ℕ) (old new : Option (List ℕ)) (P : List ℕ → Type 0)
     → BeginsFile {E = Failed} files old name (Ok tt) → TakesSuch P old new → IsTakenFrom files name new P
@@ -49,11 +43,6 @@ pub taken_map : (files : Option Files) (name : List ℕ) (rest : Option (List �
 taken_map None name rest P Q go takes = tt
 taken_map (Some files) name rest P Q go (inl none) = inl none
 taken_map (Some files) name rest P Q go (inr takes) = inr (takes.0, takes.1, takes.2, takes.3, go takes.0 takes.4)
-
--- it was taken of the files that stayed
-pub taken_stays : (now files : Option Files) (name : List ℕ) (rest : Option (List ℕ)) (P : List ℕ → Type 0) → now ≡ files
-    → IsTakenFrom now name rest P → IsTakenFrom files name rest P
-taken_stays now files name rest P same takes = subst (λ (fs : Option Files). IsTakenFrom fs name rest P) same takes
 
 -- ---- the table
 

@@ -163,8 +163,6 @@ fn made_tables_have_these_entries(rt: HostRuntime) -> Result<(), Fail> {
                 0, 0, 0, 6, 0, 7, 1, 0, 4, 10, 0, 10, 7, 1, 11, 4, 1, 7, 11, 4, 11, 10,
             ],
         ),
-        ("generate kind=simplex dim=2", 2, 1, &[0, 0, 0, 1, 0, 1]),
-        ("generate kind=simplex dim=3", 3, 1, &[0, 0, 0, 1, 0, 2, 1]),
         (PYRAMID, 3, 1, &[0, 0, 0, 1, 0, 4, 1]),
         (PYRAMID, 3, 2, &[0, 0, 0, 1, 0, 2, 5]),
     ];
@@ -358,7 +356,6 @@ pub(super) const PENTACHORA: &str = "nOFF
 fn made_tables_place_meshes(rt: HostRuntime) -> Result<(), Fail> {
     let alloc = rt.alloc();
     let cube = made(&rt, alloc, CUBE)?;
-    let simplex = made(&rt, alloc, "generate kind=simplex dim=3")?;
     let pyramid = made(&rt, alloc, PYRAMID)?;
     let hypercube = made(&rt, alloc, HYPERCUBE)?;
     let first = [10, 0, 0, 0, 0, 0, 0, 0];
@@ -370,7 +367,6 @@ fn made_tables_place_meshes(rt: HostRuntime) -> Result<(), Fail> {
         (cube.as_slice(), SPACE, first.as_slice(), CORNER),
         (cube.as_slice(), SCANNED, first.as_slice(), CORNER),
         (cube.as_slice(), SPACE, opposite.as_slice(), OPPOSITE),
-        (simplex.as_slice(), SPACE, first.as_slice(), TETRAHEDRA),
         (pyramid.as_slice(), SPACE, lower.as_slice(), BELOW_CENTRE),
         (pyramid.as_slice(), SPACE, upper.as_slice(), ABOVE_CENTRE),
         (
