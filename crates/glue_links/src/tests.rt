@@ -1,25 +1,18 @@
-//! The law, called once of an accepted table and of a small grid.
+//! The laws, called once: of an edge of each kind of cell, and of an accepted table and a small grid.
 
-ghost use Rattle.std.specs.Prelude.{◌≡◌, ◌∷◌, [], IfOk};
+ghost use Rattle.std.specs.Prelude.{◌≡◌, ◌<◌, ◌∷◌, [], IfOk};
+ghost use Rattle.iso_model.specs.Splits.{cell_count};
 ghost use Rattle.iso_model.specs.Values.{IsRegularGrid};
 
-use crate::link_law;
-use cell_lattice::SimplexCell;
-use grid_split::Complex;
+use crate::{link_law, ring_law};
+use cell_lattice::{CubeCell, PyramidCell, SimplexCell};
+use grid_split::{Complex, Split};
 use nrrd_raw::Grid;
 use std::alloc::Global;
 use std::test::Fail;
 use table_check::{CertifyFault, certify};
 use table_file::{AnyTable, Kind, decode};
-
-/// The table of the tetrahedron.
-const TETRAHEDRON: [u8; 140] = [
-    b'H', b'U', b'L', b'L', b'T', b'A', b'B', b'1', 1, 3, 4, 6, 0, 0, 0, 16, 0, 0, 0, 0, 0, 0, 0,
-    1, 0, 2, 1, 0, 0, 0, 1, 0, 3, 4, 0, 0, 0, 2, 1, 4, 2, 1, 3, 4, 0, 0, 0, 1, 1, 5, 3, 0, 0, 0, 2,
-    0, 2, 5, 0, 5, 3, 0, 0, 0, 2, 0, 1, 5, 0, 5, 4, 0, 0, 0, 1, 2, 5, 4, 0, 0, 0, 1, 2, 4, 5, 0, 0,
-    0, 2, 0, 5, 1, 0, 4, 5, 0, 0, 0, 2, 0, 5, 2, 0, 3, 5, 0, 0, 0, 1, 1, 3, 5, 0, 0, 0, 2, 1, 2, 4,
-    1, 4, 3, 0, 0, 0, 1, 0, 4, 3, 0, 0, 0, 1, 0, 1, 2, 0, 0, 0, 0,
-];
+use worked_tables::TETRAHEDRON;
 
 /// The grid of one cube with one sample above the others.
 fn one_cube(alloc: Global) -> Result<Grid, Fail>
@@ -32,6 +25,29 @@ fn one_cube(alloc: Global) -> Result<Grid, Fail>
         sizes: [2, 2, 2, 1],
         samples,
     })
+}
+
+/// The ring law at an edge of a cell.
+fn ring_law_at<C: Split<3>>(complex: &Complex<C, 3>, cell: u64, edge: u8)
+    requires cell { cell < cell_count C.KIND complex.now }
+    requires edge { edge < C.EDGES }
+{
+    // That there are three axes is known from here on.
+    let _ = complex.cells();
+    let edge = complex.edge(cell, edge);
+    ring_law(complex, &edge);
+}
+
+#[test]
+fn the_ring_law_is_one_of_each_kind(rt: HostRuntime) -> Result<(), Fail> {
+    let cubes = Complex::<CubeCell<3>, 3>::new([3, 3, 3]);
+    ring_law_at(&cubes, 7, 4);
+    let simplices = Complex::<SimplexCell<3>, 3>::new([2, 2, 2]);
+    ring_law_at(&simplices, 5, 2);
+    let pyramids = Complex::<PyramidCell, 3>::new([2, 2, 2]);
+    ring_law_at(&pyramids, 0, 7);
+    assert_eq!(rt; cubes.cells(), 8);
+    Ok(())
 }
 
 #[test]
