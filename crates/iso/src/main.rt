@@ -9,7 +9,7 @@ mod put;
 
 use err_sink::ErrSink;
 use file_shelf::FileShelf;
-use iso_base::{Memory, put_all};
+use iso_base::{Memory, OpenGate, put_all};
 use iso_cli::{Status, run, status_text};
 use out_sink::OutSink;
 use std::alloc::{AllocError, Global};
@@ -79,6 +79,14 @@ fn main(rt: HostRuntime) -> ExitCode {
         Err(Memory) => return end_without_memory(&mut err),
     };
     let mut out = OutSink::new(&rt);
-    let status = run(rt.alloc(), words.as_slice(), &mut shelf, &mut out, &mut err);
+    let status = run(
+        &rt,
+        rt.alloc(),
+        words.as_slice(),
+        &mut shelf,
+        &mut out,
+        &mut err,
+        &OpenGate,
+    );
     ExitCode::from(status.code())
 }

@@ -7,9 +7,11 @@ ghost use Rattle.table_file.specs.Reading.{HasOwnDimension, table_in};
 ghost use Rattle.iso_cli.specs.Checked.{IsRefusalOf, checked_in};
 
 use crate::status::Status;
+use crate::workers::{PARTS, Workers};
 use cell_lattice::{Cell, CubeCell, Kind, PyramidCell, SimplexCell};
-use std::alloc::Global;
-use table_check::{CertifyFault, Checked, certify};
+use iso_base::Gate;
+use std::thread::Threads;
+use table_check::{CertifyFault, Checked, certify_parts};
 use table_file::{AnyTable, Table};
 
 /// A table that the check accepts, by the cells of its kind.
@@ -48,60 +50,72 @@ fn dimension_of<C: Cell<D>, const D: usize>(table: &Checked<C, D>) -> u8
 }
 
 /// The table, if the check accepts it.
-pub fn certify_any(alloc: Global, table: AnyTable) -> Result<CheckedTable, Status>
+pub fn certify_any<R: Threads + Sync, G: Gate + Sync>(
+    workers: &Workers<R, G>,
+    table: AnyTable,
+) -> Result<CheckedTable, Status>
     ensures same { IfOk result (λ checked. checked_in checked ≡ table_in table) }
     ensures whole { IfOk result (λ checked. IsTable (checked_in checked)) }
     ensures accepted { IfOk result (λ checked. IsAccepted (checked_in checked)) }
     ensures refused { IfErr result (IsRefusalOf (table_in table)) }
 {
     match table {
-        AnyTable::T2(table) => certify_plane(alloc, table),
-        AnyTable::T3(table) => certify_space(alloc, table),
-        AnyTable::T4(table) => certify_hyperspace(alloc, table),
+        AnyTable::T2(table) => certify_plane(workers, table),
+        AnyTable::T3(table) => certify_space(workers, table),
+        AnyTable::T4(table) => certify_hyperspace(workers, table),
     }
 }
 
-fn certify_plane(alloc: Global, table: Table<2>) -> Result<CheckedTable, Status>
+fn certify_plane<R: Threads + Sync, G: Gate + Sync>(
+    workers: &Workers<R, G>,
+    table: Table<2>,
+) -> Result<CheckedTable, Status>
     ensures same { IfOk result (λ checked. checked_in checked ≡ table) }
     ensures whole { IfOk result (λ checked. IsTable (checked_in checked)) }
     ensures accepted { IfOk result (λ checked. IsAccepted (checked_in checked)) }
     ensures refused { IfErr result (IsRefusalOf table) }
 {
     match table.kind() {
-        Kind::Cube => Ok(CheckedTable::Squares(certified(alloc, table)?)),
-        Kind::Simplex => Ok(CheckedTable::Triangles(certified(alloc, table)?)),
+        Kind::Cube => Ok(CheckedTable::Squares(certified(workers, table)?)),
+        Kind::Simplex => Ok(CheckedTable::Triangles(certified(workers, table)?)),
         Kind::Pyramid => unreachable!(),
     }
 }
 
-fn certify_space(alloc: Global, table: Table<3>) -> Result<CheckedTable, Status>
+fn certify_space<R: Threads + Sync, G: Gate + Sync>(
+    workers: &Workers<R, G>,
+    table: Table<3>,
+) -> Result<CheckedTable, Status>
     ensures same { IfOk result (λ checked. checked_in checked ≡ table) }
     ensures whole { IfOk result (λ checked. IsTable (checked_in checked)) }
     ensures accepted { IfOk result (λ checked. IsAccepted (checked_in checked)) }
     ensures refused { IfErr result (IsRefusalOf table) }
 {
     match table.kind() {
-        Kind::Cube => Ok(CheckedTable::Cubes(certified(alloc, table)?)),
-        Kind::Simplex => Ok(CheckedTable::Tetrahedra(certified(alloc, table)?)),
-        Kind::Pyramid => Ok(CheckedTable::Pyramids(certified(alloc, table)?)),
+        Kind::Cube => Ok(CheckedTable::Cubes(certified(workers, table)?)),
+        Kind::Simplex => Ok(CheckedTable::Tetrahedra(certified(workers, table)?)),
+        Kind::Pyramid => Ok(CheckedTable::Pyramids(certified(workers, table)?)),
     }
 }
 
-fn certify_hyperspace(alloc: Global, table: Table<4>) -> Result<CheckedTable, Status>
+fn certify_hyperspace<R: Threads + Sync, G: Gate + Sync>(
+    workers: &Workers<R, G>,
+    table: Table<4>,
+) -> Result<CheckedTable, Status>
     ensures same { IfOk result (λ checked. checked_in checked ≡ table) }
     ensures whole { IfOk result (λ checked. IsTable (checked_in checked)) }
     ensures accepted { IfOk result (λ checked. IsAccepted (checked_in checked)) }
     ensures refused { IfErr result (IsRefusalOf table) }
 {
     match table.kind() {
-        Kind::Cube => Ok(CheckedTable::Hypercubes(certified(alloc, table)?)),
-        Kind::Simplex => Ok(CheckedTable::Pentachora(certified(alloc, table)?)),
+        Kind::Cube => Ok(CheckedTable::Hypercubes(certified(workers, table)?)),
+        Kind::Simplex => Ok(CheckedTable::Pentachora(certified(workers, table)?)),
         Kind::Pyramid => unreachable!(),
     }
 }
 
-fn certified<C: Cell<D>, const D: usize>(
-    alloc: Global,
+fn certified<R: Threads + Sync, C: Cell<D> + Sync, const D: usize, G: Gate + Sync>(
+    workers: &Workers<R, G>,
     table: Table<D>,
 ) -> Result<Checked<C, D>, Status>
     requires { table.kind ≡ C.KIND }
@@ -110,7 +124,7 @@ fn certified<C: Cell<D>, const D: usize>(
     ensures accepted { IfOk result IsAccepted }
     ensures refused { IfErr result (IsRefusalOf table.entry) }
 {
-    match certify::<C, D>(alloc, table) {
+    match certify_parts::<R, C, D, G>(workers.rt, workers.alloc, table, PARTS, workers.gate) {
         Ok(checked) => {
             // That it is accepted is known from here on.
             let _ = checked.table();

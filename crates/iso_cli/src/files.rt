@@ -19,9 +19,11 @@ ghost use Rattle.iso_cli.specs.Statuses.{IfDecided, IsOfFiles, IsOfForm, IsOfGri
 use crate::checked::{CheckedTable, certify_any, dimension};
 use crate::read::read_front;
 use crate::status::{Status, TableForm};
-use iso_base::Shelf;
+use crate::workers::Workers;
+use iso_base::{Gate, Shelf};
 use nrrd_raw::{Grid, read_header, read_samples};
 use std::alloc::Global;
+use std::thread::Threads;
 use table_file::{AnyTable, decode};
 
 /// The most bytes that a table file has.
@@ -81,8 +83,8 @@ pub fn read_table<S: Shelf>(alloc: Global, shelf: &mut S, name: &str) -> Result<
 }
 
 /// Reads the table of a file, which the check is to accept.
-pub fn read_checked<S: Shelf>(
-    alloc: Global,
+pub fn read_checked<R: Threads + Sync, S: Shelf, G: Gate + Sync>(
+    workers: &Workers<R, G>,
     shelf: &mut S,
     name: &str,
 ) -> Result<CheckedTable, Status>
@@ -94,8 +96,8 @@ pub fn read_checked<S: Shelf>(
     ensures left { IfErr result (LeavesTableFile (S.files shelf.old) name.now (S.rest shelf.new)) }
     ensures held { IfOk result (λ table. HoldsAccepted (S.files shelf.old) name.now (checked_in table)) }
 {
-    let table = read_table(alloc, shelf, name)?;
-    certify_any(alloc, table)
+    let table = read_table(workers.alloc, shelf, name)?;
+    certify_any(workers, table)
 }
 
 /// Reads the grid of a file, which is to have as many axes as a table has dimensions.
@@ -128,8 +130,8 @@ fn read_grid<S: Shelf>(
 
 /// Reads the table of a file, which the check is to accept, and then the grid of another, which is to have as many
 /// axes as the table has dimensions.
-pub fn read_both<S: Shelf>(
-    alloc: Global,
+pub fn read_both<R: Threads + Sync, S: Shelf, G: Gate + Sync>(
+    workers: &Workers<R, G>,
     shelf: &mut S,
     table: &str,
     grid: &str,
@@ -143,7 +145,7 @@ pub fn read_both<S: Shelf>(
     ensures held { IfOk result (λ both. HoldBoth (S.files shelf.old) table.now grid.now (checked_in both.0) both.1) }
     ensures regular { IfOk result (λ both. IsRegularGrid both.1) }
 {
-    let table = read_checked(alloc, shelf, table)?;
-    let grid = read_grid(alloc, shelf, grid, dimension(&table))?;
+    let table = read_checked(workers, shelf, table)?;
+    let grid = read_grid(workers.alloc, shelf, grid, dimension(&table))?;
     Ok((table, grid))
 }

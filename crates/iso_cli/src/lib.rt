@@ -10,6 +10,7 @@ mod output;
 mod program;
 mod read;
 mod status;
+mod workers;
 
 pub use laws::one_answer_law;
 pub use line::status_text;

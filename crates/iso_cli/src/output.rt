@@ -13,16 +13,18 @@ ghost use Rattle.iso_cli.specs.Statuses.{IsOfPutting};
 use crate::checked::CheckedTable;
 use crate::line::counted;
 use crate::status::Status;
+use crate::workers::{PARTS, Workers};
 use cell_lattice::{Cell, CubeCell, Kind, PyramidCell, SimplexCell};
 use grid_split::Split;
-use iso_base::{Memory, Sink, put_all};
+use iso_base::{Gate, Memory, Sink, put_all};
 use mesh_extract::extract;
 use nrrd_raw::Grid;
 use off_write::write_mesh;
 use std::alloc::Global;
+use std::thread::Threads;
 use table_check::Checked;
 use table_file::{AnyTable, encode, encode2};
-use table_make::make;
+use table_make::make_parts;
 
 /// Puts the line for an accepted table.
 pub fn put_accepted<O: Sink>(out: &mut O) -> Status
@@ -53,40 +55,52 @@ fn put_bytes<O: Sink>(bytes: &[u8], out: &mut O) -> Status
 }
 
 /// Puts the bytes of the table that the construction gives for a kind and a dimension.
-pub fn put_table<O: Sink>(alloc: Global, kind: Kind, dim: u8, out: &mut O) -> Status
+pub fn put_table<R: Threads + Sync, O: Sink, G: Gate + Sync>(
+    workers: &Workers<R, G>,
+    kind: Kind,
+    dim: u8,
+    out: &mut O,
+) -> Status
     requires fits { HasDimension kind dim }
     ensures kinds { IsOfPutting result }
     ensures output { LeavesOutput O.faults O.bytes (IsGenerated kind dim) result out.old out.new }
 {
     match (kind, dim) {
-        (Kind::Cube, 2) => put_made::<CubeCell<2>, 2, O>(alloc, out),
-        (Kind::Cube, 3) => put_made::<CubeCell<3>, 3, O>(alloc, out),
-        (Kind::Cube, 4) => put_made::<CubeCell<4>, 4, O>(alloc, out),
-        (Kind::Simplex, 2) => put_made::<SimplexCell<2>, 2, O>(alloc, out),
-        (Kind::Simplex, 3) => put_made::<SimplexCell<3>, 3, O>(alloc, out),
-        (Kind::Simplex, 4) => put_made::<SimplexCell<4>, 4, O>(alloc, out),
-        (Kind::Pyramid, 3) => put_made::<PyramidCell, 3, O>(alloc, out),
+        (Kind::Cube, 2) => put_made::<R, CubeCell<2>, 2, O, G>(workers, out),
+        (Kind::Cube, 3) => put_made::<R, CubeCell<3>, 3, O, G>(workers, out),
+        (Kind::Cube, 4) => put_made::<R, CubeCell<4>, 4, O, G>(workers, out),
+        (Kind::Simplex, 2) => put_made::<R, SimplexCell<2>, 2, O, G>(workers, out),
+        (Kind::Simplex, 3) => put_made::<R, SimplexCell<3>, 3, O, G>(workers, out),
+        (Kind::Simplex, 4) => put_made::<R, SimplexCell<4>, 4, O, G>(workers, out),
+        (Kind::Pyramid, 3) => put_made::<R, PyramidCell, 3, O, G>(workers, out),
         _ => unreachable!(),
     }
 }
 
 // The same, where the cell is known.
-fn put_made<C: Cell<D>, const D: usize, O: Sink>(alloc: Global, out: &mut O) -> Status
+fn put_made<R, C, const D: usize, O, G>(workers: &Workers<R, G>, out: &mut O) -> Status
+where
+    R: Threads + Sync,
+    C: Cell<D> + Sync,
+    O: Sink,
+    G: Gate + Sync,
     ensures kinds { IsOfPutting result }
     ensures output { LeavesOutput O.faults O.bytes (IsGenerated C.KIND D) result out.old out.new }
 {
-    match made_bytes::<C, D>(alloc) {
+    match made_bytes::<R, C, D, G>(workers) {
         Ok(bytes) => put_bytes(bytes.as_slice(), out),
         Err(Memory) => Status::Memory,
     }
 }
 
 // The bytes of the table of a cell.
-fn made_bytes<C: Cell<D>, const D: usize>(alloc: Global) -> Result<Vec<u8>, Memory>
+fn made_bytes<R: Threads + Sync, C: Cell<D> + Sync, const D: usize, G: Gate + Sync>(
+    workers: &Workers<R, G>,
+) -> Result<Vec<u8>, Memory>
     ensures { IfOk result (λ bytes. IsGenerated C.KIND D bytes.items) }
 {
-    let table = make::<C, D>(alloc)?;
-    encode(alloc, &table)
+    let table = make_parts::<R, C, D, G>(workers.rt, workers.alloc, PARTS, workers.gate)?;
+    encode(workers.alloc, &table)
 }
 
 /// Puts the bytes of a table in version 2.

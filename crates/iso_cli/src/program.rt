@@ -14,20 +14,27 @@ use crate::files::{read_both, read_checked, read_table};
 use crate::line::status_text;
 use crate::output::{put_accepted, put_clean, put_mesh, put_table, put_version_2};
 use crate::status::Status;
-use iso_base::{Shelf, Sink, put_all};
+use crate::workers::Workers;
+use iso_base::{Gate, Shelf, Sink, put_all};
 use iso_words::{Command, WrongWord, parse};
 use std::alloc::Global;
+use std::thread::Threads;
 
 /// Does what the words ask, and puts the line of the status to `err`, unless it is `Done`.
 ///
 /// `words` are the words after the program's name. The shelf gives the files that they name, and `out` takes the
 /// output, of which nothing is put before every refusal is past. A failure of `err` changes no status.
-pub fn run<S: Shelf, O: Sink, E: Sink>(
+///
+/// A table is made and checked in four parts, for which `rt` starts threads; each part passes `gate` as it starts. What
+/// is put and answered does not depend on them.
+pub fn run<R: Threads + Sync, S: Shelf, O: Sink, E: Sink, G: Gate + Sync>(
+    rt: &R,
     alloc: Global,
     words: &[String],
     shelf: &mut S,
     out: &mut O,
     err: &mut E,
+    gate: &G,
 ) -> Status
     ensures answer { IsTrueAnswer (S.files shelf.old) (texts words.now) result }
 
@@ -54,7 +61,8 @@ pub fn run<S: Shelf, O: Sink, E: Sink>(
 
     ensures line { PutsLine E.faults E.bytes result err.old err.new }
 {
-    let status = perform(alloc, words, shelf, out);
+    let workers = Workers { rt, alloc, gate };
+    let status = perform(&workers, words, shelf, out);
     if status != Status::Done {
         let text = status_text(&status);
         let _ = put_all(err, text.as_str().as_bytes());
@@ -63,7 +71,12 @@ pub fn run<S: Shelf, O: Sink, E: Sink>(
 }
 
 // What the words ask.
-fn perform<S: Shelf, O: Sink>(alloc: Global, words: &[String], shelf: &mut S, out: &mut O) -> Status
+fn perform<R: Threads + Sync, S: Shelf, O: Sink, G: Gate + Sync>(
+    workers: &Workers<R, G>,
+    words: &[String],
+    shelf: &mut S,
+    out: &mut O,
+) -> Status
     ensures answer { IsTrueAnswer (S.files shelf.old) (texts words.now) result }
     ensures shelf { LeavesShelf S.faults S.files S.sound
         (SayBuilt (texts words.now) (LacksFile (S.files shelf.old))) result shelf.old shelf.new }
@@ -73,17 +86,22 @@ fn perform<S: Shelf, O: Sink>(alloc: Global, words: &[String], shelf: &mut S, ou
     ensures generated { NeedsNoFile (texts words.now) result shelf.old shelf.new }
 {
     match parse(words) {
-        Ok(Command::Generate { kind, dim }) => put_table(alloc, kind, dim, out),
-        Ok(Command::Check { table }) => check(alloc, table, shelf, out),
-        Ok(Command::Extract { table, grid, iso }) => extract(alloc, table, grid, iso, shelf, out),
-        Ok(Command::Convert { table }) => convert(alloc, table, shelf, out),
-        Ok(Command::Audit { mesh }) => audit(alloc, mesh, shelf, out),
+        Ok(Command::Generate { kind, dim }) => put_table(workers, kind, dim, out),
+        Ok(Command::Check { table }) => check(workers, table, shelf, out),
+        Ok(Command::Extract { table, grid, iso }) => extract(workers, table, grid, iso, shelf, out),
+        Ok(Command::Convert { table }) => convert(workers.alloc, table, shelf, out),
+        Ok(Command::Audit { mesh }) => audit(workers.alloc, mesh, shelf, out),
         Err(WrongWord(place)) => Status::Usage(place),
     }
 }
 
 // Says that the table of a file is accepted, or why not.
-fn check<S: Shelf, O: Sink>(alloc: Global, table: &str, shelf: &mut S, out: &mut O) -> Status
+fn check<R: Threads + Sync, S: Shelf, O: Sink, G: Gate + Sync>(
+    workers: &Workers<R, G>,
+    table: &str,
+    shelf: &mut S,
+    out: &mut O,
+) -> Status
     ensures known { ¬ IsUsage result }
     ensures answer { IsTrueOf (S.files shelf.old) result (check_command table.now) }
     ensures shelf { LeavesShelf S.faults S.files S.sound
@@ -92,7 +110,7 @@ fn check<S: Shelf, O: Sink>(alloc: Global, table: &str, shelf: &mut S, out: &mut
         (λ text. IsOutput (S.files shelf.old) text (check_command table.now)) result out.old out.new }
     ensures left { LeavesRest (S.files shelf.old) result (S.rest shelf.new) (check_command table.now) }
 {
-    match read_checked(alloc, shelf, table) {
+    match read_checked(workers, shelf, table) {
         Ok(_) => put_accepted(out),
         Err(status) => status,
     }
@@ -131,8 +149,8 @@ fn audit<S: Shelf, O: Sink>(alloc: Global, mesh: &str, shelf: &mut S, out: &mut 
 }
 
 // Puts the mesh of a grid, by a table, at an isovalue.
-fn extract<S: Shelf, O: Sink>(
-    alloc: Global,
+fn extract<R: Threads + Sync, S: Shelf, O: Sink, G: Gate + Sync>(
+    workers: &Workers<R, G>,
     table: &str,
     grid: &str,
     iso: i64,
@@ -148,8 +166,8 @@ fn extract<S: Shelf, O: Sink>(
         (λ text. IsOutput (S.files shelf.old) text (extract_command table.now grid.now iso)) result out.old out.new }
     ensures left { LeavesRest (S.files shelf.old) result (S.rest shelf.new) (extract_command table.now grid.now iso) }
 {
-    match read_both(alloc, shelf, table, grid) {
-        Ok((table, grid)) => put_mesh(alloc, &table, &grid, iso, out),
+    match read_both(workers, shelf, table, grid) {
+        Ok((table, grid)) => put_mesh(workers.alloc, &table, &grid, iso, out),
         Err(status) => status,
     }
 }

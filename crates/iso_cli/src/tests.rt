@@ -1,10 +1,11 @@
 ghost use Rattle.std.specs.Prelude.{◌≡◌, IfOk};
 
 use super::*;
-use iso_base::{MemFile, MemShelf, MemSink};
+use iso_base::{MemFile, MemShelf, MemSink, OpenGate, Shelf, Sink};
 use std::alloc::{AllocError, Global};
 use std::process::Abort;
 use std::test::Fail;
+use std::thread::Threads;
 use worked_tables::{SQUARE, SQUARE2, TETRAHEDRON, TRIANGLE};
 
 mod audited;
@@ -111,6 +112,18 @@ const fn refuses<'a>(
     }
 }
 
+// A run over the threads that there are, and a gate that is open.
+fn run_freely<S: Shelf, O: Sink>(
+    rt: &(impl Threads + Sync),
+    alloc: Global,
+    words: &[String],
+    shelf: &mut S,
+    out: &mut O,
+    err: &mut MemSink,
+) -> Status {
+    run(rt, alloc, words, shelf, out, err, &OpenGate)
+}
+
 fn words_of(alloc: Global, line: &str) -> Result<Vec<String>, AllocError> {
     let mut words = Vec::new(alloc);
     if !line.is_empty() {
@@ -153,14 +166,14 @@ fn failing_shelf(
 }
 
 // Runs the case, and compares the status and what was put.
-fn check(rt: &impl Abort, alloc: Global, number: usize, case: &Case) -> Result<(), Fail> {
+fn check(rt: &(impl Abort + Threads + Sync), alloc: Global, number: usize, case: &Case) -> Result<(), Fail> {
     let mut shelf = shelf_of(alloc, case)?;
     check_over(rt, alloc, number, case, &mut shelf, case.status, case.line)
 }
 
 // The same over a shelf, with a status and a line of its own.
 fn check_over(
-    rt: &impl Abort,
+    rt: &(impl Abort + Threads + Sync),
     alloc: Global,
     number: usize,
     case: &Case,
@@ -172,7 +185,7 @@ fn check_over(
     let fails = Vec::from_slice(alloc, case.out_fails)?;
     let mut out = MemSink::new(alloc, 2000, fails, case.out_step.max(1))?;
     let mut err = MemSink::new(alloc, 1000, Vec::new(alloc), 10)?;
-    let answer = run(alloc, words.as_slice(), shelf, &mut out, &mut err);
+    let answer = run_freely(rt, alloc, words.as_slice(), shelf, &mut out, &mut err);
     assert_eq!(rt; answer, status, "case {number}");
     assert_eq!(rt; out.bytes(), case.out.as_bytes(), "case {number}");
     assert_eq!(rt; err.bytes(), line.as_bytes(), "case {number}");
@@ -180,7 +193,7 @@ fn check_over(
 }
 
 // Checks each of the cases.
-fn check_all(rt: &impl Abort, alloc: Global, cases: &[Case]) -> Result<(), Fail> {
+fn check_all(rt: &(impl Abort + Threads + Sync), alloc: Global, cases: &[Case]) -> Result<(), Fail> {
     for (number, case) in cases.iter().enumerate() {
         check(rt, alloc, number, case)?;
     }
@@ -453,7 +466,7 @@ fn a_failing_error_stream_changes_nothing(rt: HostRuntime) -> Result<(), Fail> {
         let mut out = MemSink::new(alloc, 1000, Vec::new(alloc), 10)?;
         let fails = Vec::from_slice(alloc, &[0, 1, 2, 3])?;
         let mut err = MemSink::new(alloc, 1000, fails, 10)?;
-        let status = run(alloc, words.as_slice(), &mut shelf, &mut out, &mut err);
+        let status = run_freely(&rt, alloc, words.as_slice(), &mut shelf, &mut out, &mut err);
         assert_eq!(rt; status, case.status, "case {number}");
         assert_eq!(rt; out.bytes(), case.out.as_bytes(), "case {number}");
         assert_eq!(rt; err.bytes(), [].as_slice(), "case {number}");

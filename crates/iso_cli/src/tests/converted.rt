@@ -20,7 +20,7 @@ const fn spoils<'a>(table: [&'a [u8]; 3], fault: (u64, TableCause), line: &'a st
 
 // Puts the table of the file that these pieces make, and compares what was put.
 fn check_put(
-    rt: &impl Abort,
+    rt: &(impl Abort + Threads + Sync),
     alloc: Global,
     table: [&[u8]; 3],
     expected: &[u8],
@@ -33,7 +33,7 @@ fn check_put(
     let mut shelf = shelf_of(alloc, &case)?;
     let mut out = MemSink::new(alloc, 300, Vec::new(alloc), 64)?;
     let mut err = MemSink::new(alloc, 100, Vec::new(alloc), 64)?;
-    let status = run(alloc, words.as_slice(), &mut shelf, &mut out, &mut err);
+    let status = run_freely(rt, alloc, words.as_slice(), &mut shelf, &mut out, &mut err);
     assert_eq!(rt; status, Status::Done);
     assert_eq!(rt; out.bytes(), expected);
     Ok(())

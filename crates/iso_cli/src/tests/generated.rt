@@ -1,7 +1,6 @@
 //! Generated tables: their bytes, the check of them, and meshes by them.
 
 use super::*;
-use iso_base::Shelf;
 
 const CUBE: &str = "generate kind=cube dim=3";
 
@@ -38,14 +37,14 @@ const fn refuses_to_make<'a>(words: &'a str, place: u32, line: &'a str) -> Makin
 }
 
 // Runs the case over a shelf whose first call fails, and sees that this call is still to come.
-fn check_making(rt: &impl Abort, alloc: Global, number: usize, case: &Making) -> Result<(), Fail> {
+fn check_making(rt: &(impl Abort + Threads + Sync), alloc: Global, number: usize, case: &Making) -> Result<(), Fail> {
     let words = words_of(alloc, case.words)?;
     let mut files = Vec::new(alloc);
     files.push(file(alloc, "table.tab", &[&SQUARE])?)?;
     let mut shelf = MemShelf::new(files, Vec::from_slice(alloc, &[0])?, 10);
     let mut out = MemSink::new(alloc, case.room, Vec::new(alloc), 16)?;
     let mut err = MemSink::new(alloc, 1000, Vec::new(alloc), 10)?;
-    let status = run(alloc, words.as_slice(), &mut shelf, &mut out, &mut err);
+    let status = run_freely(rt, alloc, words.as_slice(), &mut shelf, &mut out, &mut err);
     assert_eq!(rt; status, case.status, "case {number}");
     assert_eq!(rt; out.bytes(), case.out, "case {number}");
     assert_eq!(rt; err.bytes(), case.line.as_bytes(), "case {number}");
@@ -79,12 +78,12 @@ fn tables_are_made_without_files(rt: HostRuntime) -> Result<(), Fail> {
 }
 
 // The bytes of the table that the words ask for.
-fn made(rt: &impl Abort, alloc: Global, line: &str) -> Result<Vec<u8>, Fail> {
+fn made(rt: &(impl Abort + Threads + Sync), alloc: Global, line: &str) -> Result<Vec<u8>, Fail> {
     let words = words_of(alloc, line)?;
     let mut shelf = MemShelf::new(Vec::new(alloc), Vec::new(alloc), 1);
     let mut out = MemSink::new(alloc, 4_000_000, Vec::new(alloc), 65_536)?;
     let mut err = MemSink::new(alloc, 0, Vec::new(alloc), 1)?;
-    let status = run(alloc, words.as_slice(), &mut shelf, &mut out, &mut err);
+    let status = run_freely(rt, alloc, words.as_slice(), &mut shelf, &mut out, &mut err);
     assert_eq!(rt; status, Status::Done, "{line}");
     Ok(Vec::from_slice(alloc, out.bytes())?)
 }
