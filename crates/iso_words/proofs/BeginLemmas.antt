@@ -1,7 +1,7 @@
 -- Words that gave right values so far go on to a right list: each missing key is given a value.
 use Rattle.std.proofs.Common.{◌≡◌, ℕ, Bool, true, false, cond, ◌&&◌, List, [], ◌∷◌, ◌++◌, Option, Some, None, refl, sym, ◌∙◌, ap, subst, arith}
 use Rattle.std.proofs.lemmas.Int.{ints}
-use Rattle.std.specs.Prelude.{pos, codes}
+use Rattle.std.specs.Prelude.{pos, codes, ◌==◌, ◌≤◌}
 use Rattle.std.specs.List.{AllPass, cons_option, list_all}
 use Rattle.std.specs.Option.{is_some, option_copied}
 use Rattle.std.proofs.lemmas.Bool.{and_parts}
@@ -11,20 +11,21 @@ use Rattle.std.proofs.lemmas.List.Sums.{AllPass-from_list_all}
 use Rattle.iso_model.specs.declared.Kind.{Kind as CellKind}
 use Rattle.iso_model.specs.declared.Kind.TheVariants.{Cube, Simplex, Pyramid}
 use Rattle.iso_model.specs.Cells.{HasDimension}
-use Rattle.iso_commands.specs.Commands.{value_for, generate_command, check_command, extract_command, convert_command, audit_command, has_key_of, BeginRight}
+use Rattle.iso_commands.specs.Commands.{value_for, generate_command, check_command, extract_command, demo_command, convert_command, audit_command}
+use Rattle.iso_commands.specs.Commands.{has_key_of, size_limit, BeginRight}
 use Rattle.iso_words.specs.declared.keys.CommandName.{CommandName}
-use Rattle.iso_words.specs.declared.keys.CommandName.TheVariants.{Generate, Check, Extract, Convert, Audit}
+use Rattle.iso_words.specs.declared.keys.CommandName.TheVariants.{Generate, Check, Extract, Demo, Convert, Audit}
 use Rattle.iso_words.specs.declared.given.Given.{Given}
 use Rattle.iso_words.specs.Built.{is_built}
 use Rattle.iso_words.specs.declared.keys.Key.{Key}
-use Rattle.iso_words.specs.declared.keys.Key.TheVariants.{Kind, Dim, Table, Grid, Iso, Mesh}
+use Rattle.iso_words.specs.declared.keys.Key.TheVariants.{Kind, Dim, Size, Seed, Table, Grid, Iso, Mesh}
 use Rattle.iso_words.specs.Keys.{key_text, name_text, keys_of, has_key}
 use Rattle.lists.specs.Orders.{same_list}
 use Rattle.lists.proofs.MemberLaws.{lists_equal}
 use Rattle.iso_words.proofs.KeyLemmas.{value_for-other, has_key_of-key}
-use Rattle.iso_words.specs.Given.{IsKind, IsDimension, IsFile, IsIsovalue, Fit, values_of, Stood, Gave}
+use Rattle.iso_words.specs.Given.{IsKind, IsDimension, IsSize, IsSeed, IsFile, IsIsovalue, widest, Fit, values_of, Stood, Gave}
 use Rattle.iso_words.proofs.StoodLemmas.{values_of-append}
-use Rattle.iso_words.proofs.RightLemmas.{SayGenerate-given, SayCheck-given, SayExtract-given, SayConvert-given, SayAudit-given}
+use Rattle.iso_words.proofs.RightLemmas.{SayGenerate-given, SayCheck-given, SayExtract-given, SayDemo-given, SayConvert-given, SayAudit-given}
 
 -- a word for a key that is missing
 abbrev fill : Bool → List ℕ → List (List ℕ)
@@ -57,6 +58,8 @@ standing (Some w) v = w
 word_of-value : (key : Key) (text : List ℕ) → value_for (key_text key) (word_of key text) ≡ Some text
 word_of-value Kind text = refl
 word_of-value Dim text = refl
+word_of-value Size text = refl
+word_of-value Seed text = refl
 word_of-value Table text = refl
 word_of-value Grid text = refl
 word_of-value Iso text = refl
@@ -114,28 +117,59 @@ a_file = (refl, λ e. cc)
 an_isovalue : IsIsovalue (codes "0") (pos 0)
 an_isovalue = ((refl, refl), omega (arith, ints), omega (arith, ints))
 
-a_dimension : IsDimension (codes "3") 3
-a_dimension = ((refl, refl), omega arith, omega arith)
+a_size : IsSize (codes "1") 1
+a_size = ((refl, refl), omega arith, omega arith)
 
--- each dimension has cubes, and each kind has three dimensions
-standing_fit : (kind : Option CellKind) (dim : Option ℕ) (values : List (List ℕ)) → Stood IsDimension dim values → Fit kind dim
-    → HasDimension (standing kind Cube) (standing dim 3)
-standing_fit None None values s f = (omega arith, omega arith)
-standing_fit None (Some d) values s f = (s.2.1, s.2.2)
-standing_fit (Some Cube) None values s f = (omega arith, omega arith)
-standing_fit (Some Simplex) None values s f = (omega arith, omega arith)
-standing_fit (Some Pyramid) None values s f = refl
-standing_fit (Some k) (Some d) values s f = f
+a_seed : IsSeed (codes "0") 0
+a_seed = ((refl, refl), omega arith)
+
+-- the text of the dimension with the greatest grids
+abbrev widest_text : Option CellKind → List ℕ
+widest_text None = codes "2"
+widest_text (Some Cube) = codes "2"
+widest_text (Some Simplex) = codes "2"
+widest_text (Some Pyramid) = codes "3"
+
+a_dimension : (kind : Option CellKind) → IsDimension (widest_text kind) (widest kind None)
+a_dimension None = ((refl, refl), omega arith, omega arith)
+a_dimension (Some Cube) = ((refl, refl), omega arith, omega arith)
+a_dimension (Some Simplex) = ((refl, refl), omega arith, omega arith)
+a_dimension (Some Pyramid) = ((refl, refl), omega arith, omega arith)
+
+-- each dimension has cubes, each kind has the dimension with its greatest grids
+standing_fit : (kind : Option CellKind) (dim size : Option ℕ) (values : List (List ℕ)) → Stood IsDimension dim values → Fit kind dim size
+    → HasDimension (standing kind Cube) (standing dim (widest kind None))
+standing_fit None None size values s f = (omega arith, omega arith)
+standing_fit None (Some d) size values s f = (s.2.1, s.2.2)
+standing_fit (Some Cube) None size values s f = (omega arith, omega arith)
+standing_fit (Some Simplex) None size values s f = (omega arith, omega arith)
+standing_fit (Some Pyramid) None size values s f = refl
+standing_fit (Some k) (Some d) size values s f = f.0
+
+-- and each dimension has grids of size 1
+size_limit-some : (d : ℕ) → 1 ≤ size_limit d
+size_limit-some d = go (d == 2) (d == 3)
+  where
+    go : (two three : Bool) → 1 ≤ cond two 256 (cond three 64 16)
+    go true three = omega arith
+    go false true = omega arith
+    go false false = omega arith
+
+standing_small : (kind : Option CellKind) (dim size : Option ℕ) → Fit kind dim size → standing size 1 ≤ size_limit (standing dim (widest kind None))
+standing_small kind dim None f = size_limit-some (standing dim (widest kind None))
+standing_small kind None (Some n) f = f.1
+standing_small kind (Some d) (Some n) f = f.1
 
 begin_generate : (further : List (List ℕ)) (given : Given) → Gave Generate further given → BeginRight is_built (codes "generate" ∷ further)
 begin_generate further given g =
-    let rows = (Kind, is_some given.kind, codes "cube") ∷ (Dim, is_some given.dim, codes "3") ∷ [] in
+    let rows = (Kind, is_some given.kind, codes "cube") ∷ (Dim, is_some given.dim, widest_text given.kind) ∷ [] in
     let kind = standing given.kind Cube in
-    let d = standing given.dim 3 in
+    let d = standing given.dim (widest given.kind None) in
     let said = SayGenerate-given (further ++ fills rows) kind d (keyed_on Generate rows further refl g.keyed)
     (after_fills IsKind given.kind (codes "kind") rows further (codes "cube") Cube refl (append-nil _) (g.stood Kind))
-    (after_fills IsDimension given.dim (codes "dim") rows further (codes "3") 3 a_dimension (append-nil _) (g.stood Dim))
-    (standing_fit given.kind given.dim (values_of (codes "dim") further) (g.stood Dim) g.fits) in
+    (after_fills IsDimension given.dim (codes "dim") rows further (widest_text given.kind) (widest given.kind None) (a_dimension given.kind) (append-nil _)
+    (g.stood Dim))
+    (standing_fit given.kind given.dim given.size (values_of (codes "dim") further) (g.stood Dim) g.fits) in
     (fills rows, (generate_command kind d, refl, said))
 
 begin_check : (further : List (List ℕ)) (given : Given) → Gave Check further given → BeginRight is_built (codes "check" ∷ further)
@@ -157,6 +191,30 @@ begin_extract further given g =
     (after_fills IsFile grid (codes "grid") rows further (codes "a") (codes "a") a_file (append-nil _) (g.stood Grid))
     (after_fills IsIsovalue given.iso (codes "iso") rows further (codes "0") (pos 0) an_isovalue (append-nil _) (g.stood Iso)) in
     (fills rows, (extract_command (standing table (codes "a")) (standing grid (codes "a")) (standing given.iso (pos 0)), refl, said))
+
+begin_demo : (further : List (List ℕ)) (given : Given) → Gave Demo further given → BeginRight is_built (codes "demo" ∷ further)
+begin_demo further given g =
+    let rows =
+    (Kind, is_some given.kind, codes "cube")
+    ∷ (Dim, is_some given.dim, widest_text given.kind)
+    ∷ (Size, is_some given.size, codes "1")
+    ∷ (Seed, is_some given.seed, codes "0")
+    ∷ [] in
+    let kind = standing given.kind Cube in
+    let d = standing given.dim (widest given.kind None) in
+    let size = standing given.size 1 in
+    let seed = standing given.seed 0 in
+    let said =
+    SayDemo-given (further ++ fills rows) kind d size seed (keyed_on Demo rows further refl g.keyed)
+    (after_fills IsKind given.kind (codes "kind") rows further (codes "cube") Cube refl (append-nil _) (g.stood Kind))
+    (after_fills IsDimension given.dim (codes "dim") rows further (widest_text given.kind) (widest given.kind None) (a_dimension given.kind) (append-nil _)
+    (g.stood Dim))
+    (after_fills IsSize given.size (codes "size") rows further (codes "1") 1 a_size (append-nil _) (g.stood Size))
+    (after_fills IsSeed given.seed (codes "seed") rows further (codes "0") 0 a_seed (append-nil _) (g.stood Seed)) (
+      standing_fit given.kind given.dim given.size (values_of (codes "dim") further) (g.stood Dim) g.fits,
+      standing_small given.kind given.dim given.size g.fits,
+    ) in
+    (fills rows, (demo_command kind d size seed, refl, said))
 
 begin_convert : (further : List (List ℕ)) (given : Given) → Gave Convert further given → BeginRight is_built (codes "convert" ∷ further)
 begin_convert further given g =
@@ -181,5 +239,6 @@ pub BeginRight-given : (name : CommandName) (further : List (List ℕ)) (given :
 BeginRight-given Generate further given g = begin_generate further given g
 BeginRight-given Check further given g = begin_check further given g
 BeginRight-given Extract further given g = begin_extract further given g
+BeginRight-given Demo further given g = begin_demo further given g
 BeginRight-given Convert further given g = begin_convert further given g
 BeginRight-given Audit further given g = begin_audit further given g

@@ -7,9 +7,9 @@ use Rattle.std.proofs.lemmas.Slice.Eq.{bytes_eq-Decides}
 use Rattle.lists.specs.Orders.{has, same_list}
 use Rattle.iso_commands.specs.Commands.{value_for, has_key_of}
 use Rattle.iso_words.specs.declared.keys.Key.{Key}
-use Rattle.iso_words.specs.declared.keys.Key.TheVariants.{Kind, Dim, Table, Grid, Iso, Mesh}
+use Rattle.iso_words.specs.declared.keys.Key.TheVariants.{Kind, Dim, Size, Seed, Table, Grid, Iso, Mesh}
 use Rattle.iso_words.specs.declared.keys.CommandName.{CommandName}
-use Rattle.iso_words.specs.declared.keys.CommandName.TheVariants.{Generate, Check, Extract, Convert, Audit}
+use Rattle.iso_words.specs.declared.keys.CommandName.TheVariants.{Generate, Check, Extract, Demo, Convert, Audit}
 use Rattle.iso_words.specs.Keys.{key_text, name_text, own_keys, keys_of, has_key}
 
 some_test : {A : Type 0} (t : Bool) (x v : A) → cond t (Some x) None ≡ Some v → t ≡ true
@@ -82,6 +82,8 @@ abbrev pub every_key : List Key
 every_key =
     Kind
     ∷ Dim
+    ∷ Size
+    ∷ Seed
     ∷ Table
     ∷ Grid
     ∷ Iso
@@ -91,6 +93,8 @@ every_key =
 key_found : (key : Key) → with_word key_text (key_text key) every_key ≡ Some key
 key_found Kind = refl
 key_found Dim = refl
+key_found Size = refl
+key_found Seed = refl
 key_found Table = refl
 key_found Grid = refl
 key_found Iso = refl
@@ -104,6 +108,7 @@ every_name =
     Generate
     ∷ Check
     ∷ Extract
+    ∷ Demo
     ∷ Convert
     ∷ Audit
     ∷ []
@@ -112,6 +117,7 @@ name_found : (name : CommandName) → with_word name_text (name_text name) every
 name_found Generate = refl
 name_found Check = refl
 name_found Extract = refl
+name_found Demo = refl
 name_found Convert = refl
 name_found Audit = refl
 

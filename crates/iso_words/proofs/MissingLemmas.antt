@@ -6,11 +6,11 @@ use Rattle.std.proofs.lemmas.Bool.{false≢true, true≢false}
 use Rattle.iso_commands.specs.Commands.{AreRight}
 use Rattle.iso_words.specs.Built.{is_built}
 use Rattle.iso_words.specs.declared.keys.Key.{Key}
-use Rattle.iso_words.specs.declared.keys.Key.TheVariants.{Kind, Dim, Table, Grid, Iso, Mesh}
+use Rattle.iso_words.specs.declared.keys.Key.TheVariants.{Kind, Dim, Size, Seed, Table, Grid, Iso, Mesh}
 use Rattle.iso_words.specs.declared.keys.CommandName.{CommandName}
 use Rattle.iso_words.specs.declared.given.Given.{Given}
 use Rattle.iso_words.specs.Keys.{key_text, name_text, own_keys}
-use Rattle.iso_words.specs.Given.{IsKind, IsDimension, IsFile, IsIsovalue, values_of, Stood, StoodAt, Gave, is_given, Lacks}
+use Rattle.iso_words.specs.Given.{IsKind, IsDimension, IsSize, IsSeed, IsFile, IsIsovalue, values_of, Stood, StoodAt, Gave, is_given, Lacks}
 use Rattle.iso_words.proofs.RightLemmas.{StandsOnce, HasKeys-from_right}
 use Rattle.iso_words.proofs.TakeLemmas.{copied}
 
@@ -26,8 +26,10 @@ no_file_stands o name values s e = none_stands IsFile (option_copied o) name val
 -- a key that was not given does not stand
 missing : (key : Key) (given : Given) (further : List (List ℕ)) → StoodAt key given (values_of (key_text key) further) → is_given key given ≡ false
     → StandsOnce key further → ⊥
-missing Kind given further s e once = none_stands IsKind given.kind once.0 _ s e once.2
-missing Dim given further s e once = none_stands IsDimension given.dim once.1 _ s e once.3
+missing Kind given further s e once = none_stands IsKind given.kind once.0 _ s e once.3.kinds
+missing Dim given further s e once = none_stands IsDimension given.dim once.1 _ s e once.3.dims
+missing Size given further s e once = none_stands IsSize given.size once.2 _ s e once.3.sizes
+missing Seed given further s e once = none_stands IsSeed given.seed once.0 _ s e once.1
 missing Table given further s e once = no_file_stands given.table once.0 _ s e once.1
 missing Grid given further s e once = no_file_stands given.grid once.0 _ s e once.1
 missing Iso given further s e once = none_stands IsIsovalue given.iso once.0 _ s e once.1

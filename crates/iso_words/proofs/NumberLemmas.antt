@@ -45,6 +45,6 @@ all_ascii_digits-list_all (b ∷ bytes) = ap (λ (t : Bool). is_ascii_digit b &&
 pub isovalue_fits : (n : ℤ) → neg_ℤ (pos iso_limit) ≤ℤ n → n ≤ℤ pos iso_limit → FitsSigned w64 n
 isovalue_fits n low high = search rules
 
--- and so does a dimension
-pub dimension_fits : (d : ℕ) → d ≤ 4 → FitsSigned w64 (pos d)
-dimension_fits d most = search rules
+-- and so does a number of 32 bits
+pub short_fits : (n : ℕ) → n ≤ 4294967295 → FitsSigned w64 (pos n)
+short_fits n most = search rules

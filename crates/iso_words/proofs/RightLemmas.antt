@@ -1,40 +1,46 @@
 -- What a right list of words has, by the name of its command; and a list that gave right values so far goes on to a right one.
-use Rattle.std.proofs.Common.{◌≡◌, ℕ, Bool, true, false, ◌||◌, List, [], ◌∷◌, ◌++◌, map, Option, Some, refl, sym, ◌∙◌, ap, subst, Bor}
+use Rattle.std.proofs.Common.{◌≡◌, ℕ, Bool, true, false, ◌||◌, List, [], ◌∷◌, ◌++◌, map, Option, Some, None, refl, sym, ◌∙◌, ap, subst, Bor, arith}
 use Rattle.std.specs.Prelude.{ℤ, codes, IsTrue}
-use Rattle.std.specs.List.{AllByRecursion, AllPass, list_all, list_any}
+use Rattle.std.specs.List.{AllByRecursion, AllPass, cons_option, list_all, list_any}
 use Rattle.std.specs.Option.{option_copied}
 use Rattle.std.proofs.lemmas.Bool.{false≢true, and_parts}
 use Rattle.std.proofs.lemmas.List.Sums.{list_all-from_AllPass}
 use Rattle.iso_model.specs.declared.Kind.{Kind as CellKind}
 use Rattle.iso_model.specs.Cells.{HasDimension}
-use Rattle.iso_commands.specs.Commands.{Command as Asked, generate_command, check_command, extract_command, demo_command, has_key_of, kind_name, Say}
+use Rattle.iso_commands.specs.Commands.{Command as Asked, generate_command, check_command, extract_command, demo_command, has_key_of, kind_name, Say, value_for}
 use Rattle.iso_commands.specs.Commands.{convert_command, audit_command}
-use Rattle.iso_commands.specs.Commands.{SayGenerate, SayCheck, SayExtract, SayConvert, SayAudit, AreRight, BeginRight}
+use Rattle.iso_commands.specs.Commands.{SayGenerate, SayCheck, SayExtract, SayDemo, SayConvert, SayAudit, AreRight, BeginRight}
 use Rattle.iso_words.specs.declared.keys.Key.{Key}
-use Rattle.iso_words.specs.declared.keys.Key.TheVariants.{Kind, Dim, Table, Grid, Iso, Mesh}
+use Rattle.iso_words.specs.declared.keys.Key.TheVariants.{Kind, Dim, Size, Seed, Table, Grid, Iso, Mesh}
 use Rattle.iso_words.specs.declared.keys.CommandName.{CommandName}
-use Rattle.iso_words.specs.declared.keys.CommandName.TheVariants.{Generate, Check, Extract, Convert, Audit}
+use Rattle.iso_words.specs.declared.keys.CommandName.TheVariants.{Generate, Check, Extract, Demo, Convert, Audit}
 use Rattle.iso_words.specs.declared.given.Given.{Given}
 use Rattle.iso_words.specs.Built.{is_built}
 use Rattle.iso_words.specs.Keys.{key_text, name_text, own_keys, keys_of, has_key}
-use Rattle.iso_words.specs.Given.{IsKind, IsDimension, IsFile, IsIsovalue, Fit, values_of, Stood, Gave, WereGiven, IsWhole, SayNamed, name_of}
+use Rattle.iso_words.specs.Given.{IsKind, IsDimension, IsSize, IsSeed, IsFile, IsIsovalue, HasGiven, Fit, values_of, Stood, Gave}
+use Rattle.iso_words.specs.Given.{WereGiven, IsWhole, SayNamed, name_of}
 use Rattle.iso_words.specs.declared.Command.{Command}
-use Rattle.iso_words.specs.declared.Command.TheVariants.{Generate as generate, Check as check, Extract as extract, Convert as convert, Audit as audit}
+use Rattle.iso_words.specs.declared.Command.TheVariants.{Generate as generate, Check as check, Extract as extract, Demo as demo}
+use Rattle.iso_words.specs.declared.Command.TheVariants.{Convert as convert, Audit as audit}
 use Rattle.iso_model.proofs.DimensionLaws.{HasDimension-limits}
-use Rattle.iso_words.proofs.KeyLemmas.{key_text-one, name_text-one}
+use Rattle.iso_words.proofs.KindLemmas.{size_limit-most}
+use Rattle.iso_words.proofs.KeyLemmas.{has_key_of-some, key_text-one, name_text-one}
 use Rattle.lists.specs.Orders.{same_list}
 use Rattle.lists.proofs.MemberLaws.{lists_equal, same_head}
 
--- a kind and a dimension stand once each, and go together
-abbrev pub StandTogether : List (List ℕ) → Type 0
-StandTogether further =
-    (kind : CellKind) × (d : ℕ) × Stood IsKind (Some kind) (values_of (codes "kind") further) × Stood IsDimension (Some d) (values_of (codes "dim") further)
-    × HasDimension kind d
+-- a kind and a dimension stand once each, and so does a size, or it does not stand; and they go together
+pub record StandTogether (kind : CellKind) (d : ℕ) (size : Option ℕ) (further : List (List ℕ)) : Type 0 where
+  pub kinds : Stood IsKind (Some kind) (values_of (codes "kind") further)
+  pub dims : Stood IsDimension (Some d) (values_of (codes "dim") further)
+  pub sizes : Stood IsSize size (values_of (codes "size") further)
+  pub fits : Fit (Some kind) (Some d) size
 
 -- a key stands once, with a value that it may have
 abbrev pub StandsOnce : Key → List (List ℕ) → Type 0
-StandsOnce Kind further = StandTogether further
-StandsOnce Dim further = StandTogether further
+StandsOnce Kind further = (kind : CellKind) × (d : ℕ) × (size : Option ℕ) × StandTogether kind d size further
+StandsOnce Dim further = (kind : CellKind) × (d : ℕ) × (size : Option ℕ) × StandTogether kind d size further
+StandsOnce Size further = (kind : CellKind) × (d : ℕ) × (n : ℕ) × StandTogether kind d (Some n) further
+StandsOnce Seed further = (n : ℕ) × Stood IsSeed (Some n) (values_of (codes "seed") further)
 StandsOnce Table further = (name : List ℕ) × Stood IsFile (Some name) (values_of (codes "table") further)
 StandsOnce Grid further = (name : List ℕ) × Stood IsFile (Some name) (values_of (codes "grid") further)
 StandsOnce Iso further = (n : ℤ) × Stood IsIsovalue (Some n) (values_of (codes "iso") further)
@@ -50,6 +56,7 @@ abbrev pub Values : CommandName → Type 0
 Values Generate = CellKind × ℕ
 Values Check = List ℕ
 Values Extract = List ℕ × List ℕ × ℤ
+Values Demo = CellKind × ℕ × ℕ × ℕ
 Values Convert = List ℕ
 Values Audit = List ℕ
 
@@ -58,6 +65,7 @@ abbrev pub with_values : (name : CommandName) → Values name → Asked
 with_values Generate (kind, d) = generate_command kind d
 with_values Check table = check_command table
 with_values Extract (table, grid, iso) = extract_command table grid iso
+with_values Demo (kind, d, size, seed) = demo_command kind d size seed
 with_values Convert table = convert_command table
 with_values Audit mesh = audit_command mesh
 
@@ -66,9 +74,9 @@ pub built_values : (c : Asked) → IsTrue (is_built c) → (name : CommandName) 
 built_values (generate_command kind d) b = (Generate, (kind, d), refl)
 built_values (check_command table) b = (Check, table, refl)
 built_values (extract_command table grid iso) b = (Extract, (table, grid, iso), refl)
+built_values (demo_command kind d size seed) b = (Demo, (kind, d, size, seed), refl)
 built_values (convert_command table) b = (Convert, table, refl)
 built_values (audit_command mesh) b = (Audit, mesh, refl)
-built_values (demo_command kind d size seed) b = absurd (false≢true b)
 
 -- the words that say it begin with this name
 pub begins_named : (name : CommandName) (values : Values name) (words : List (List ℕ)) → Say words (with_values name values)
@@ -76,6 +84,7 @@ pub begins_named : (name : CommandName) (values : Values name) (words : List (Li
 begins_named Generate values words s = s.are_for.named
 begins_named Check values words s = s.are_for.named
 begins_named Extract values words s = s.are_for.named
+begins_named Demo values words s = s.are_for.named
 begins_named Convert values words s = s.are_for.named
 begins_named Audit values words s = s.are_for.named
 
@@ -84,19 +93,48 @@ begins-one m n values words further e s =
     let named = begins_named n values words s in
     name_text-one m n (same_head (name_text m) (name_text n) further named.0 (sym e ∙ named.1))
 
+-- words with keys of a list give no values for another key
+no_values : (keys : List (List ℕ)) (key : List ℕ) (further : List (List ℕ)) → list_any (same_list key) keys ≡ false
+    → list_all (has_key_of keys) further ≡ true → values_of key further ≡ []
+no_values keys key [] apart all = refl
+no_values keys key (word ∷ further) apart all =
+    let p = and_parts (has_key_of keys word) (list_all (has_key_of keys) further) all in
+    ap (λ (o : Option (List ℕ)). cons_option o (values_of key further)) (none (value_for key word) refl p.0) ∙ no_values keys key further apart p.1
+  where
+    none : (o : Option (List ℕ)) → value_for key word ≡ o → has_key_of keys word ≡ true → value_for key word ≡ None
+    none None e has = e
+    none (Some v) e has = absurd (false≢true (sym apart ∙ sym (has_key_of-some keys key word v e) ∙ has))
+
 -- and have each of its keys once, with a value that it may have
 has_keys : (name : CommandName) (values : Values name) (further : List (List ℕ)) → Say (name_text name ∷ further) (with_values name values) → HasKeys name further
 has_keys Generate (kind, d) further s =
     let limits = HasDimension-limits kind d s.fits in
-    let together : StandTogether further =
-    (kind, d, (kind_name kind, s.kind_is, refl), (s.dim_is.0, s.dim_is.1, (s.dim_is.2, limits.0, limits.1)), s.fits) in
-    record { keyed = s.are_for.keyed; once = (together, (together, tt)) }
+    let together : StandTogether kind d None further = record {
+      kinds = (kind_name kind, s.kind_is, refl);
+      dims = (s.dim_is.0, s.dim_is.1, (s.dim_is.2, limits.0, limits.1));
+      sizes = no_values (keys_of Generate) (codes "size") further refl (list_all-from_AllPass _ _ s.are_for.keyed);
+      fits = (s.fits, tt);
+    } in
+    record { keyed = s.are_for.keyed; once = ((kind, d, None, together), ((kind, d, None, together), tt)) }
 has_keys Check table further s = record { keyed = s.are_for.keyed; once = ((table, (table, s.table_is.0, (refl, s.table_is.1))), tt) }
 has_keys Extract (table, grid, iso) further s =
     let table_once : StandsOnce Table further = (table, (table, s.table_is.0, (refl, s.table_is.1))) in
     let grid_once : StandsOnce Grid further = (grid, (grid, s.grid_is.0, (refl, s.grid_is.1))) in
     let iso_once : StandsOnce Iso further = (iso, (s.iso_is.0, s.iso_is.1, (s.iso_is.2, s.iso_from, s.iso_to))) in
     record { keyed = s.are_for.keyed; once = (table_once, (grid_once, (iso_once, tt))) }
+has_keys Demo (kind, d, size, seed) further s =
+    let limits = HasDimension-limits kind d s.fits in
+    let together : StandTogether kind d (Some size) further = record {
+      kinds = (kind_name kind, s.kind_is, refl);
+      dims = (s.dim_is.0, s.dim_is.1, (s.dim_is.2, limits.0, limits.1));
+      sizes = (s.size_is.0, s.size_is.1, (s.size_is.2, s.size_from, omega (arith, s.size_to, size_limit-most d)));
+      fits = (s.fits, s.size_to);
+    } in
+    let seed_once : StandsOnce Seed further = (seed, (s.seed_is.0, s.seed_is.1, (s.seed_is.2, s.seed_to))) in
+    record {
+      keyed = s.are_for.keyed;
+      once = ((kind, d, Some size, together), ((kind, d, Some size, together), ((kind, d, size, together), (seed_once, tt))));
+    }
 has_keys Convert table further s = record { keyed = s.are_for.keyed; once = ((table, (table, s.table_is.0, (refl, s.table_is.1))), tt) }
 has_keys Audit mesh further s = record { keyed = s.are_for.keyed; once = ((mesh, (mesh, s.mesh_is.0, (refl, s.mesh_is.1))), tt) }
 
@@ -152,6 +190,22 @@ SayExtract-given further table grid iso keyed t g i = record {
   iso_to = i.2.2;
 }
 
+pub SayDemo-given : (further : List (List ℕ)) (kind : CellKind) (d size seed : ℕ) → AllPass (has_key_of (keys_of Demo)) further
+    → Stood IsKind (Some kind) (values_of (codes "kind") further) → Stood IsDimension (Some d) (values_of (codes "dim") further)
+    → Stood IsSize (Some size) (values_of (codes "size") further) → Stood IsSeed (Some seed) (values_of (codes "seed") further)
+    → Fit (Some kind) (Some d) (Some size) → SayDemo (codes "demo" ∷ further) kind d size seed
+SayDemo-given further kind d size seed keyed k n m x fits = record {
+  are_for = record { named = (further, refl); keyed = keyed };
+  kind_is = k.1 ∙ ap (λ (v : List ℕ). v ∷ []) k.2;
+  dim_is = (n.0, n.1, n.2.0);
+  fits = fits.0;
+  size_is = (m.0, m.1, m.2.0);
+  size_from = m.2.1;
+  size_to = fits.1;
+  seed_is = (x.0, x.1, x.2.0);
+  seed_to = x.2.1;
+}
+
 pub SayConvert-given : (further : List (List ℕ)) (table : List ℕ) → AllPass (has_key_of (keys_of Convert)) further
     → Stood IsFile (Some table) (values_of (codes "table") further) → SayConvert (codes "convert" ∷ further) table
 SayConvert-given further table keyed t = record {
@@ -179,11 +233,17 @@ say_given : (command : Command) (further : List (List ℕ)) (given : Given) → 
 say_given (generate kind dim) further given w g =
     SayGenerate-given further kind dim g.keyed (value_stood IsKind _ given.kind kind w.0 (g.stood Kind))
     (value_stood IsDimension _ given.dim dim w.1 (g.stood Dim))
-    (subst (λ (o : Option ℕ). Fit (Some kind) o) w.1 (subst (λ (o : Option CellKind). Fit o given.dim) w.0 g.fits))
+    (subst (λ (o : Option ℕ). HasGiven (Some kind) o) w.1 (subst (λ (o : Option CellKind). HasGiven o given.dim) w.0 g.fits.0))
 say_given (check table) further given w g = SayCheck-given further table.now g.keyed (file_stood (codes "table") further given.table table w (g.stood Table))
 say_given (extract table grid iso) further given w g =
     SayExtract-given further table.now grid.now iso g.keyed (file_stood (codes "table") further given.table table w.0 (g.stood Table))
     (file_stood (codes "grid") further given.grid grid w.1 (g.stood Grid)) (value_stood IsIsovalue _ given.iso iso w.2 (g.stood Iso))
+say_given (demo kind dim size seed) further given w g =
+    SayDemo-given further kind dim size seed g.keyed (value_stood IsKind _ given.kind kind w.0 (g.stood Kind))
+    (value_stood IsDimension _ given.dim dim w.1 (g.stood Dim)) (value_stood IsSize _ given.size size w.2 (g.stood Size))
+    (value_stood IsSeed _ given.seed seed w.3 (g.stood Seed))
+    (subst (λ (o : Option ℕ). Fit (Some kind) (Some dim) o) w.2
+    (subst (λ (o : Option ℕ). Fit (Some kind) o given.size) w.1 (subst (λ (o : Option CellKind). Fit o given.dim given.size) w.0 g.fits)))
 say_given (convert table) further given w g = SayConvert-given further table.now g.keyed (file_stood (codes "table") further given.table table w (g.stood Table))
 say_given (audit mesh) further given w g = SayAudit-given further mesh.now g.keyed (file_stood (codes "mesh") further given.mesh mesh w (g.stood Mesh))
 

@@ -3,17 +3,16 @@ use Rattle.std.proofs.Common.{◌≡◌, ℕ, Bool, true, false, not, ◌&&◌, 
 use Rattle.std.specs.Prelude.{ℤ, codes}
 use Rattle.std.specs.Option.{is_some, option_copied, MatchOption}
 use Rattle.iso_model.specs.declared.Kind.{Kind as CellKind}
-use Rattle.iso_model.specs.Cells.{HasDimension}
 use Rattle.iso_commands.specs.Commands.{value_for, BeginRight}
 use Rattle.iso_words.specs.declared.keys.Key.{Key}
-use Rattle.iso_words.specs.declared.keys.Key.TheVariants.{Kind, Dim, Iso}
+use Rattle.iso_words.specs.declared.keys.Key.TheVariants.{Kind, Dim, Size, Seed, Iso}
 use Rattle.iso_words.specs.declared.keys.CommandName.{CommandName}
 use Rattle.iso_words.specs.Built.{is_built}
 use Rattle.iso_words.specs.Keys.{key_text, name_text, has_key}
-use Rattle.iso_words.specs.Given.{IsKind, IsDimension, IsFile, IsIsovalue, IsKindBeside, IsDimensionBeside, Fit, values_of, Stood}
-use Rattle.iso_words.proofs.StoodLemmas.{never_stands, first_stands, Stood-same}
-use Rattle.iso_words.proofs.KindLemmas.{IsKind-one, IsDimension-one, Stood-kind_beside, Stood-from_kind_beside, Stood-dimension_beside}
-use Rattle.iso_words.proofs.KindLemmas.{Stood-from_dimension_beside}
+use Rattle.iso_words.specs.Given.{IsKind, IsDimension, IsSize, IsSeed, IsFile, IsIsovalue, IsKindBeside, IsDimensionBeside, IsSizeBeside}
+use Rattle.iso_words.specs.Given.{Fit, values_of, Stood}
+use Rattle.iso_words.proofs.StoodLemmas.{never_stands, first_stands, never_beside, Stood-keeps}
+use Rattle.iso_words.proofs.KindLemmas.{IsKind-one, IsDimension-one, IsSize-one, Fit-before}
 use Rattle.iso_words.proofs.RightLemmas.{StandsOnce, not_begin-never}
 
 -- ---- file names
@@ -60,57 +59,50 @@ pub never_isovalue : (name : CommandName) (further : List (List ℕ)) (word text
 never_isovalue name further word text old new has e stood read t =
     not_begin-never name Iso (further ++ word ∷ []) has (λ more s. never_stands IsIsovalue old new (codes "iso") further word text e stood t read more s.0 s.1)
 
--- ---- kinds and dimensions
+-- ---- seeds
 
--- a kind, where none stood
-pub first_kind : (further : List (List ℕ)) (word text : List ℕ) (old new : Option CellKind) (dim : Option ℕ)
-    → value_for (codes "kind") word ≡ Some text → Stood IsKind old (values_of (codes "kind") further) → Fit old dim
-    → MatchOption new ((k : CellKind) → ¬ IsKindBeside dim text k) (IsKindBeside dim text) → (not (is_some old) && is_some new) ≡ true
-    → Stood IsKind new (values_of (codes "kind") (further ++ word ∷ [])) × Fit new dim
-first_kind further word text old new dim e stood fits read t =
-    Stood-from_kind_beside dim new _
-    (first_stands (IsKindBeside dim) old new (codes "kind") further word text e (Stood-kind_beside dim old (values_of (codes "kind") further) stood fits) t read)
+-- a seed, where one stood, or the text is none
+pub never_seed : (name : CommandName) (further : List (List ℕ)) (word text : List ℕ) (old new : Option ℕ)
+    → has_key name Seed ≡ true → value_for (codes "seed") word ≡ Some text → Stood IsSeed old (values_of (codes "seed") further)
+    → MatchOption new ((n : ℕ) → ¬ IsSeed text n) (IsSeed text) → (not (is_some old) && is_some new) ≡ false
+    → BeginRight is_built (name_text name ∷ (further ++ word ∷ [])) → ⊥
+never_seed name further word text old new has e stood read t =
+    not_begin-never name Seed (further ++ word ∷ []) has (λ more s. never_stands IsSeed old new (codes "seed") further word text e stood t read more s.0 s.1)
 
--- a dimension, where none stood
-pub first_dimension : (further : List (List ℕ)) (word text : List ℕ) (old new : Option ℕ) (kind : Option CellKind)
-    → value_for (codes "dim") word ≡ Some text → Stood IsDimension old (values_of (codes "dim") further) → Fit kind old
-    → MatchOption new ((d : ℕ) → ¬ IsDimensionBeside kind text d) (IsDimensionBeside kind text) → (not (is_some old) && is_some new) ≡ true
-    → Stood IsDimension new (values_of (codes "dim") (further ++ word ∷ [])) × Fit kind new
-first_dimension further word text old new kind e stood fits read t =
-    Stood-from_dimension_beside kind new _
-    (first_stands (IsDimensionBeside kind) old new (codes "dim") further word text e (Stood-dimension_beside kind old (values_of (codes "dim") further) stood fits) t read)
+-- ---- kinds, dimensions and sizes
 
--- what stands in a right list goes with what was given before
-fits_given_dimension : (dim : Option ℕ) (further ys more : List (List ℕ)) (k : CellKind) (d : ℕ) → Stood IsDimension dim (values_of (codes "dim") further)
-    → Stood IsDimension (Some d) (values_of (codes "dim") ((further ++ ys) ++ more)) → HasDimension k d → Fit (Some k) dim
-fits_given_dimension None further ys more k d stood s h = tt
-fits_given_dimension (Some n) further ys more k d stood s h =
-    subst (λ (m : ℕ). HasDimension k m) (sym (Stood-same IsDimension IsDimension-one (codes "dim") further ys more n d stood s)) h
-
-fits_given_kind : (kind : Option CellKind) (further ys more : List (List ℕ)) (k : CellKind) (d : ℕ) → Stood IsKind kind (values_of (codes "kind") further)
-    → Stood IsKind (Some k) (values_of (codes "kind") ((further ++ ys) ++ more)) → HasDimension k d → Fit kind (Some d)
-fits_given_kind None further ys more k d stood s h = tt
-fits_given_kind (Some l) further ys more k d stood s h =
-    subst (λ (m : CellKind). HasDimension m d) (sym (Stood-same IsKind IsKind-one (codes "kind") further ys more l k stood s)) h
-
--- a kind, where one stood, or the text names none that goes with the dimension
-pub never_kind : (name : CommandName) (further : List (List ℕ)) (word text : List ℕ) (old new : Option CellKind) (dim : Option ℕ)
+-- a kind, where one stood, or the text names none that goes with the dimension and the size
+pub never_kind : (name : CommandName) (further : List (List ℕ)) (word text : List ℕ) (old new : Option CellKind) (dim size : Option ℕ)
     → has_key name Kind ≡ true → value_for (codes "kind") word ≡ Some text → Stood IsKind old (values_of (codes "kind") further)
-    → Stood IsDimension dim (values_of (codes "dim") further) → Fit old dim
-    → MatchOption new ((k : CellKind) → ¬ IsKindBeside dim text k) (IsKindBeside dim text) → (not (is_some old) && is_some new) ≡ false
+    → Stood IsDimension dim (values_of (codes "dim") further) → Stood IsSize size (values_of (codes "size") further) → Fit old dim size
+    → MatchOption new ((k : CellKind) → ¬ IsKindBeside dim size text k) (IsKindBeside dim size text) → (not (is_some old) && is_some new) ≡ false
     → BeginRight is_built (name_text name ∷ (further ++ word ∷ [])) → ⊥
-never_kind name further word text old new dim has e stood dims fits read t =
-    not_begin-never name Kind (further ++ word ∷ []) has (λ more (k, d, ks, ds, h).
-    never_stands (IsKindBeside dim) old new (codes "kind") further word text e (Stood-kind_beside dim old (values_of (codes "kind") further) stood fits) t read more k
-    (Stood-kind_beside dim (Some k) _ ks (fits_given_dimension dim further (word ∷ []) more k d dims ds h)))
+never_kind name further word text old new dim size has e stood dims sizes fits read t =
+    not_begin-never name Kind (further ++ word ∷ []) has (λ more (k, d, last, s).
+    never_beside IsKind (λ o. Fit o dim size) old new (codes "kind") further word text e stood fits t read more k s.kinds
+    (Fit-before (Some k) dim size k d last refl (Stood-keeps IsDimension IsDimension-one (codes "dim") further (word ∷ []) more dim (Some d) dims s.dims)
+    (Stood-keeps IsSize IsSize-one (codes "size") further (word ∷ []) more size last sizes s.sizes) s.fits))
 
--- a dimension, where one stood, or the text is none that goes with the kind
-pub never_dimension : (name : CommandName) (further : List (List ℕ)) (word text : List ℕ) (old new : Option ℕ) (kind : Option CellKind)
+-- a dimension, where one stood, or the text is none that goes with the kind and the size
+pub never_dimension : (name : CommandName) (further : List (List ℕ)) (word text : List ℕ) (old new : Option ℕ) (kind : Option CellKind) (size : Option ℕ)
     → has_key name Dim ≡ true → value_for (codes "dim") word ≡ Some text → Stood IsDimension old (values_of (codes "dim") further)
-    → Stood IsKind kind (values_of (codes "kind") further) → Fit kind old
-    → MatchOption new ((d : ℕ) → ¬ IsDimensionBeside kind text d) (IsDimensionBeside kind text) → (not (is_some old) && is_some new) ≡ false
+    → Stood IsKind kind (values_of (codes "kind") further) → Stood IsSize size (values_of (codes "size") further) → Fit kind old size
+    → MatchOption new ((d : ℕ) → ¬ IsDimensionBeside kind size text d) (IsDimensionBeside kind size text) → (not (is_some old) && is_some new) ≡ false
     → BeginRight is_built (name_text name ∷ (further ++ word ∷ [])) → ⊥
-never_dimension name further word text old new kind has e stood kinds fits read t =
-    not_begin-never name Dim (further ++ word ∷ []) has (λ more (k, d, ks, ds, h).
-    never_stands (IsDimensionBeside kind) old new (codes "dim") further word text e (Stood-dimension_beside kind old (values_of (codes "dim") further) stood fits) t read more d
-    (Stood-dimension_beside kind (Some d) _ ds (fits_given_kind kind further (word ∷ []) more k d kinds ks h)))
+never_dimension name further word text old new kind size has e stood kinds sizes fits read t =
+    not_begin-never name Dim (further ++ word ∷ []) has (λ more (k, d, last, s).
+    never_beside IsDimension (λ o. Fit kind o size) old new (codes "dim") further word text e stood fits t read more d s.dims
+    (Fit-before kind (Some d) size k d last (Stood-keeps IsKind IsKind-one (codes "kind") further (word ∷ []) more kind (Some k) kinds s.kinds) refl
+    (Stood-keeps IsSize IsSize-one (codes "size") further (word ∷ []) more size last sizes s.sizes) s.fits))
+
+-- a size, where one stood, or the text is none that goes with the kind and the dimension
+pub never_size : (name : CommandName) (further : List (List ℕ)) (word text : List ℕ) (old new : Option ℕ) (kind : Option CellKind) (dim : Option ℕ)
+    → has_key name Size ≡ true → value_for (codes "size") word ≡ Some text → Stood IsSize old (values_of (codes "size") further)
+    → Stood IsKind kind (values_of (codes "kind") further) → Stood IsDimension dim (values_of (codes "dim") further) → Fit kind dim old
+    → MatchOption new ((n : ℕ) → ¬ IsSizeBeside kind dim text n) (IsSizeBeside kind dim text) → (not (is_some old) && is_some new) ≡ false
+    → BeginRight is_built (name_text name ∷ (further ++ word ∷ [])) → ⊥
+never_size name further word text old new kind dim has e stood kinds dims fits read t =
+    not_begin-never name Size (further ++ word ∷ []) has (λ more (k, d, n, s).
+    never_beside IsSize (λ o. Fit kind dim o) old new (codes "size") further word text e stood fits t read more n s.sizes
+    (Fit-before kind dim (Some n) k d (Some n) (Stood-keeps IsKind IsKind-one (codes "kind") further (word ∷ []) more kind (Some k) kinds s.kinds)
+    (Stood-keeps IsDimension IsDimension-one (codes "dim") further (word ∷ []) more dim (Some d) dims s.dims) refl s.fits))

@@ -10,7 +10,7 @@ use Rattle.lists.specs.Orders.{same_list}
 use Rattle.lists.proofs.MemberLaws.{lists_equal}
 use Rattle.iso_commands.specs.Commands.{has_key_of}
 use Rattle.iso_words.specs.declared.keys.Key.{Key}
-use Rattle.iso_words.specs.declared.keys.Key.TheVariants.{Kind, Dim, Table, Grid, Iso, Mesh}
+use Rattle.iso_words.specs.declared.keys.Key.TheVariants.{Kind, Dim, Size, Seed, Table, Grid, Iso, Mesh}
 use Rattle.iso_words.specs.declared.keys.CommandName.{CommandName}
 use Rattle.iso_words.specs.declared.given.Given.{Given}
 use Rattle.iso_words.specs.Keys.{key_text, keys_of, has_key, HasValue}
@@ -22,6 +22,8 @@ abbrev pub nothing : Given
 nothing = record {
   kind = None;
   dim = None;
+  size = None;
+  seed = None;
   table = None;
   grid = None;
   iso = None;
@@ -31,28 +33,34 @@ nothing = record {
 nothing_stood : (key : Key) → StoodAt key nothing []
 nothing_stood Kind = refl
 nothing_stood Dim = refl
+nothing_stood Size = refl
+nothing_stood Seed = refl
 nothing_stood Table = refl
 nothing_stood Grid = refl
 nothing_stood Iso = refl
 nothing_stood Mesh = refl
 
 pub Gave-nothing : (name : CommandName) → Gave name [] nothing
-Gave-nothing name = record { keyed = All-nil (λ w. has_key_of (keys_of name) w ≡ true); stood = nothing_stood; fits = tt }
+Gave-nothing name = record { keyed = All-nil (λ w. has_key_of (keys_of name) w ≡ true); stood = nothing_stood; fits = (tt, tt) }
 
 -- ---- what stands at each key, as a list
 
 abbrev index : Key → ℕ
 index Kind = 0
 index Dim = 1
-index Table = 2
-index Grid = 3
-index Iso = 4
-index Mesh = 5
+index Size = 2
+index Seed = 3
+index Table = 4
+index Grid = 5
+index Iso = 6
+index Mesh = 7
 
 abbrev pub stood_list : Given → List (List (List ℕ) → Type 0)
 stood_list given =
     StoodAt Kind given
     ∷ StoodAt Dim given
+    ∷ StoodAt Size given
+    ∷ StoodAt Seed given
     ∷ StoodAt Table given
     ∷ StoodAt Grid given
     ∷ StoodAt Iso given
@@ -62,6 +70,8 @@ stood_list given =
 key_at : (key : Key) → get_or every_key (index key) Kind ≡ key
 key_at Kind = refl
 key_at Dim = refl
+key_at Size = refl
+key_at Seed = refl
 key_at Table = refl
 key_at Grid = refl
 key_at Iso = refl
@@ -70,6 +80,8 @@ key_at Mesh = refl
 stood_at : (key : Key) (given : Given) → get_or (stood_list given) (index key) (λ values. ⊤) ≡ StoodAt key given
 stood_at Kind given = refl
 stood_at Dim given = refl
+stood_at Size given = refl
+stood_at Seed given = refl
 stood_at Table given = refl
 stood_at Grid given = refl
 stood_at Iso given = refl
@@ -106,7 +118,7 @@ stood_after key old new further word text e changes here stood k = go (same_list
 
 -- a word with a key of the command that changes the value of this key alone
 pub Gave-taken : (name : CommandName) (key : Key) (old new : Given) (further : List (List ℕ)) (word text : List ℕ) → has_key name key ≡ true
-    → HasValue word key text → Changes key old new → StoodAt key new (values_of (key_text key) (further ++ word ∷ [])) → Fit new.kind new.dim
+    → HasValue word key text → Changes key old new → StoodAt key new (values_of (key_text key) (further ++ word ∷ [])) → Fit new.kind new.dim new.size
     → Gave name further old → Gave name (further ++ word ∷ []) new
 Gave-taken name key old new further word text has e changes here fits g = record {
   keyed = All-push (λ w. has_key_of (keys_of name) w ≡ true) further word g.keyed (has_key_of-key name key word text e ∙ has);

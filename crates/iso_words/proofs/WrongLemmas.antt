@@ -10,9 +10,10 @@ use Rattle.std.proofs.lemmas.List.{take_more, take-append-drop, take-take, appen
 use Rattle.iso_commands.specs.Commands.{Command as Asked, kind_name, Gives}
 use Rattle.iso_commands.specs.Commands.{GivesNumber, Say, AreRight, BeginRight, IsWrongWord}
 use Rattle.iso_words.specs.declared.Command.{Command}
-use Rattle.iso_words.specs.declared.Command.TheVariants.{Generate as generate, Check as check, Extract as extract, Convert as convert, Audit as audit}
+use Rattle.iso_words.specs.declared.Command.TheVariants.{Generate as generate, Check as check, Extract as extract, Demo as demo}
+use Rattle.iso_words.specs.declared.Command.TheVariants.{Convert as convert, Audit as audit}
 use Rattle.iso_words.specs.declared.keys.CommandName.{CommandName}
-use Rattle.iso_words.specs.declared.keys.CommandName.TheVariants.{Generate, Check, Extract, Convert, Audit}
+use Rattle.iso_words.specs.declared.keys.CommandName.TheVariants.{Generate, Check, Extract, Demo, Convert, Audit}
 use Rattle.iso_words.specs.declared.given.Given.{Given}
 use Rattle.iso_words.specs.Built.{is_built, texts, asked}
 use Rattle.iso_words.specs.Keys.{name_text}
@@ -43,6 +44,12 @@ one_values Extract words (table, grid, iso) (table', grid', iso') s t =
     let same_table = one_value words (codes "table") table table' s.table_is.0 t.table_is.0 in
     let same_grid = one_value words (codes "grid") grid grid' s.grid_is.0 t.grid_is.0 in
     let same_iso = one_number words (codes "iso") iso iso' s.iso_is t.iso_is in
+    cc
+one_values Demo words (kind, d, size, seed) (kind', d', size', seed') s t =
+    let same_kind = kind_name-one kind kind' (one_value words (codes "kind") (kind_name kind) (kind_name kind') s.kind_is t.kind_is) in
+    let same_dim = pos-one d d' (one_number words (codes "dim") (pos d) (pos d') s.dim_is t.dim_is) in
+    let same_size = pos-one size size' (one_number words (codes "size") (pos size) (pos size') s.size_is t.size_is) in
+    let same_seed = pos-one seed seed' (one_number words (codes "seed") (pos seed) (pos seed') s.seed_is t.seed_is) in
     cc
 one_values Convert words table table' s t = one_value words (codes "table") table table' s.table_is.0 t.table_is.0
 one_values Audit words mesh mesh' s t = one_value words (codes "mesh") mesh mesh' s.mesh_is.0 t.mesh_is.0
@@ -179,6 +186,7 @@ pub asked_built : (command : Command) → IsTrue (is_built (asked command))
 asked_built (generate kind dim) = refl
 asked_built (check table) = refl
 asked_built (extract table grid iso) = refl
+asked_built (demo kind dim size seed) = refl
 asked_built (convert table) = refl
 asked_built (audit mesh) = refl
 
@@ -194,6 +202,8 @@ few_given given =
       arith,
       at_most_one (is_some given.kind),
       at_most_one (is_some given.dim),
+      at_most_one (is_some given.size),
+      at_most_one (is_some given.seed),
       at_most_one (is_some given.table),
       at_most_one (is_some given.grid),
       at_most_one (is_some given.iso),

@@ -1,19 +1,21 @@
 -- What the words of a command gave so far.
-use Rattle.std.specs.Prelude.{◌≡◌, ◌≢◌, ⊤, ℕ, ◌≤◌, ℤ, pos, neg_ℤ, ◌≤ℤ◌, List, [], ◌∷◌, filter_map, Option, Some, None, ◌+◌, if◌then◌else◌, is_some}
+use Rattle.std.specs.Prelude.{◌≡◌, ◌≢◌, ⊤, ℕ, ◌≤◌, ℤ, pos, neg_ℤ, ◌≤ℤ◌, List, [], ◌∷◌, filter_map, Option, Some, None, IfSome, ◌+◌, if◌then◌else◌, is_some}
 use Rattle.std.specs.Prelude.{Bool, ◌++◌, not, ◌&&◌, ◌||◌, ◌==◌, length, slice_index, IsTrue}
 use Rattle.std.specs.List.{AllPass, list_any}
 use Rattle.std.specs.Option.{option_copied}
 use Rattle.std.specs.Str.{all_ascii_digits}
 use Rattle.iso_model.specs.declared.Kind.{Kind as CellKind}
+use Rattle.iso_model.specs.declared.Kind.TheVariants.{Cube, Simplex, Pyramid}
 use Rattle.iso_model.specs.Cells.{HasDimension}
-use Rattle.iso_commands.specs.Commands.{BeginRight, Say, value_for, has_key_of, kind_name, IsNumber, iso_limit}
+use Rattle.iso_commands.specs.Commands.{BeginRight, Say, value_for, has_key_of, kind_name, IsNumber, iso_limit, size_limit}
 use Rattle.iso_words.specs.Built.{asked, is_built}
 use Rattle.iso_words.specs.declared.Command.{Command}
-use Rattle.iso_words.specs.declared.Command.TheVariants.{Generate as generate, Check as check, Extract as extract, Convert as convert, Audit as audit}
-use Rattle.iso_words.specs.declared.keys.CommandName.TheVariants.{Generate, Check, Extract, Convert, Audit}
+use Rattle.iso_words.specs.declared.Command.TheVariants.{Generate as generate, Check as check, Extract as extract, Demo as demo}
+use Rattle.iso_words.specs.declared.Command.TheVariants.{Convert as convert, Audit as audit}
+use Rattle.iso_words.specs.declared.keys.CommandName.TheVariants.{Generate, Check, Extract, Demo, Convert, Audit}
 use Rattle.iso_words.specs.Keys.{key_text, own_keys, keys_of, name_text}
 use Rattle.iso_words.specs.declared.keys.Key.{Key}
-use Rattle.iso_words.specs.declared.keys.Key.TheVariants.{Kind, Dim, Table, Grid, Iso, Mesh}
+use Rattle.iso_words.specs.declared.keys.Key.TheVariants.{Kind, Dim, Size, Seed, Table, Grid, Iso, Mesh}
 use Rattle.iso_words.specs.declared.keys.CommandName.{CommandName}
 use Rattle.iso_words.specs.declared.given.Given.{Given}
 
@@ -30,19 +32,47 @@ IsKind text kind = text ≡ kind_name kind
 abbrev pub IsDimension : List ℕ → ℕ → Type 0
 IsDimension text d = IsNumber text (pos d) × (2 ≤ d) × (d ≤ 4)
 
--- a kind and a dimension that were given go together
-abbrev pub Fit : Option CellKind → Option ℕ → Type 0
-Fit None dim = ⊤
-Fit (Some kind) None = ⊤
-Fit (Some kind) (Some d) = HasDimension kind d
+-- the text of a size that some grid of the demonstration has, as those of two dimensions
+abbrev pub IsSize : List ℕ → ℕ → Type 0
+IsSize text n = IsNumber text (pos n) × (1 ≤ n) × (n ≤ 256)
 
--- the text names a kind, which has the dimension that was given
-abbrev pub IsKindBeside : Option ℕ → List ℕ → CellKind → Type 0
-IsKindBeside dim text kind = IsKind text kind × Fit (Some kind) dim
+-- the text of a seed
+abbrev pub IsSeed : List ℕ → ℕ → Type 0
+IsSeed text n = IsNumber text (pos n) × (n ≤ 4294967295)
 
--- the text of a dimension, which the kind has that was given
-abbrev pub IsDimensionBeside : Option CellKind → List ℕ → ℕ → Type 0
-IsDimensionBeside kind text d = IsDimension text d × Fit kind (Some d)
+-- the kind has the dimension, where both were given
+abbrev pub HasGiven : Option CellKind → Option ℕ → Type 0
+HasGiven None dim = ⊤
+HasGiven (Some kind) None = ⊤
+HasGiven (Some kind) (Some d) = HasDimension kind d
+
+-- the dimension of the grids with the greatest sizes, among those of a kind, where it was given: two but for pyramids, which have three
+abbrev pub widest_of : Option CellKind → ℕ
+widest_of None = 2
+widest_of (Some Cube) = 2
+widest_of (Some Simplex) = 2
+widest_of (Some Pyramid) = 3
+
+-- the dimension of the grids with the greatest sizes, among those that go with a kind and a dimension, as far as they were given
+abbrev pub widest : Option CellKind → Option ℕ → ℕ
+widest kind (Some d) = d
+widest kind None = widest_of kind
+
+-- a kind, a dimension and a size go together, as far as they were given: some kind has them, and some grid of it
+abbrev pub Fit : Option CellKind → Option ℕ → Option ℕ → Type 0
+Fit kind dim size = HasGiven kind dim × IfSome size (λ n. n ≤ size_limit (widest kind dim))
+
+-- the text names a kind that goes with the dimension and the size
+abbrev pub IsKindBeside : Option ℕ → Option ℕ → List ℕ → CellKind → Type 0
+IsKindBeside dim size text kind = IsKind text kind × Fit (Some kind) dim size
+
+-- the text of a dimension that goes with the kind and the size
+abbrev pub IsDimensionBeside : Option CellKind → Option ℕ → List ℕ → ℕ → Type 0
+IsDimensionBeside kind size text d = IsDimension text d × Fit kind (Some d) size
+
+-- the text of a size that goes with the kind and the dimension
+abbrev pub IsSizeBeside : Option CellKind → Option ℕ → List ℕ → ℕ → Type 0
+IsSizeBeside kind dim text n = IsSize text n × Fit kind dim (Some n)
 
 -- a file name has at least one character
 abbrev pub IsFile : List ℕ → List ℕ → Type 0
@@ -65,6 +95,8 @@ Stood P (Some v) values = (text : List ℕ) × (values ≡ text ∷ []) × P tex
 abbrev pub StoodAt : Key → Given → List (List ℕ) → Type 0
 StoodAt Kind given values = Stood IsKind given.kind values
 StoodAt Dim given values = Stood IsDimension given.dim values
+StoodAt Size given values = Stood IsSize given.size values
+StoodAt Seed given values = Stood IsSeed given.seed values
 StoodAt Table given values = Stood IsFile (option_copied given.table) values
 StoodAt Grid given values = Stood IsFile (option_copied given.grid) values
 StoodAt Iso given values = Stood IsIsovalue given.iso values
@@ -74,7 +106,7 @@ StoodAt Mesh given values = Stood IsFile (option_copied given.mesh) values
 pub record Gave (name : CommandName) (further : List (List ℕ)) (given : Given) : Type 0 where
   pub keyed : AllPass (has_key_of (keys_of name)) further
   pub stood : (key : Key) → StoodAt key given (values_of (key_text key) further)
-  pub fits : Fit given.kind given.dim
+  pub fits : Fit given.kind given.dim given.size
 
 -- this holds of each list of words behind the command's name that gives these values
 abbrev pub EachGiving : CommandName → Given → (List (List ℕ) → Type 0) → Type 0
@@ -89,6 +121,7 @@ abbrev pub name_of : Command → CommandName
 name_of (generate kind dim) = Generate
 name_of (check table) = Check
 name_of (extract table grid iso) = Extract
+name_of (demo kind dim size seed) = Demo
 name_of (convert table) = Convert
 name_of (audit mesh) = Audit
 
@@ -97,6 +130,7 @@ abbrev pub WereGiven : Given → Command → Type 0
 WereGiven given (generate kind dim) = (given.kind ≡ Some kind) × (given.dim ≡ Some dim)
 WereGiven given (check table) = given.table ≡ Some table
 WereGiven given (extract table grid iso) = (given.table ≡ Some table) × (given.grid ≡ Some grid) × (given.iso ≡ Some iso)
+WereGiven given (demo kind dim size seed) = (given.kind ≡ Some kind) × (given.dim ≡ Some dim) × (given.size ≡ Some size) × (given.seed ≡ Some seed)
 WereGiven given (convert table) = given.table ≡ Some table
 WereGiven given (audit mesh) = given.mesh ≡ Some mesh
 
@@ -116,6 +150,8 @@ BeginsNone name further = ¬ BeginRight is_built (name_text name ∷ further)
 abbrev pub is_given : Key → Given → Bool
 is_given Kind given = is_some given.kind
 is_given Dim given = is_some given.dim
+is_given Size given = is_some given.size
+is_given Seed given = is_some given.seed
 is_given Table given = is_some given.table
 is_given Grid given = is_some given.grid
 is_given Iso given = is_some given.iso
@@ -130,6 +166,8 @@ abbrev pub given_count : Given → ℕ
 given_count given =
     (if is_some given.kind then 1 else 0)
     + (if is_some given.dim then 1 else 0)
+    + (if is_some given.size then 1 else 0)
+    + (if is_some given.seed then 1 else 0)
     + (if is_some given.table then 1 else 0)
     + (if is_some given.grid then 1 else 0)
     + (if is_some given.iso then 1 else 0)

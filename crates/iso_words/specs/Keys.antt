@@ -4,9 +4,9 @@ use Rattle.std.specs.List.{list_any}
 use Rattle.lists.specs.Orders.{same_list}
 use Rattle.iso_commands.specs.Commands.{value_for}
 use Rattle.iso_words.specs.declared.keys.Key.{Key}
-use Rattle.iso_words.specs.declared.keys.Key.TheVariants.{Kind, Dim, Table, Grid, Iso, Mesh}
+use Rattle.iso_words.specs.declared.keys.Key.TheVariants.{Kind, Dim, Size, Seed, Table, Grid, Iso, Mesh}
 use Rattle.iso_words.specs.declared.keys.CommandName.{CommandName}
-use Rattle.iso_words.specs.declared.keys.CommandName.TheVariants.{Generate, Check, Extract, Convert, Audit}
+use Rattle.iso_words.specs.declared.keys.CommandName.TheVariants.{Generate, Check, Extract, Demo, Convert, Audit}
 
 -- this holds of the answer, and where there is none, of nothing
 abbrev pub Finds : {V : Type 0} → (V → Type 0) → Option V → Type 0
@@ -16,6 +16,8 @@ Finds {V = V} P result = MatchOption result ((v : V) → ¬ P v) P
 abbrev pub key_text : Key → List ℕ
 key_text Kind = codes "kind"
 key_text Dim = codes "dim"
+key_text Size = codes "size"
+key_text Seed = codes "seed"
 key_text Table = codes "table"
 key_text Grid = codes "grid"
 key_text Iso = codes "iso"
@@ -26,6 +28,7 @@ abbrev pub name_text : CommandName → List ℕ
 name_text Generate = codes "generate"
 name_text Check = codes "check"
 name_text Extract = codes "extract"
+name_text Demo = codes "demo"
 name_text Convert = codes "convert"
 name_text Audit = codes "audit"
 
@@ -34,6 +37,7 @@ abbrev pub own_keys : CommandName → List Key
 own_keys Generate = Kind ∷ Dim ∷ []
 own_keys Check = Table ∷ []
 own_keys Extract = Table ∷ Grid ∷ Iso ∷ []
+own_keys Demo = Kind ∷ Dim ∷ Size ∷ Seed ∷ []
 own_keys Convert = Table ∷ []
 own_keys Audit = Mesh ∷ []
 

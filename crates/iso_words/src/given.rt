@@ -5,7 +5,7 @@ ghost use Rattle.std.specs.Bool.{OnTrue, OnFalse};
 
 use crate::Command;
 use crate::keys::{CommandName, Key};
-use crate::values::{dimension_beside, file_name, isovalue, kind_beside};
+use crate::values::{dimension_beside, file_name, isovalue, kind_beside, seed, size_beside};
 use iso_model::Kind;
 
 /// The value of each key that stood.
@@ -13,6 +13,8 @@ use iso_model::Kind;
 pub(crate) struct Given<'a> {
     kind: Option<Kind>,
     dim: Option<u8>,
+    size: Option<u64>,
+    seed: Option<u32>,
     table: Option<&'a str>,
     grid: Option<&'a str>,
     iso: Option<i64>,
@@ -30,6 +32,8 @@ impl<'a> Given<'a> {
         Given {
             kind: None,
             dim: None,
+            size: None,
+            seed: None,
             table: None,
             grid: None,
             iso: None,
@@ -51,8 +55,10 @@ impl<'a> Given<'a> {
             return false;
         }
         match key {
-            Key::Kind => put(&mut self.kind, kind_beside(self.dim, value)),
-            Key::Dim => put(&mut self.dim, dimension_beside(self.kind, value)),
+            Key::Kind => put(&mut self.kind, kind_beside(self.dim, self.size, value)),
+            Key::Dim => put(&mut self.dim, dimension_beside(self.kind, self.size, value)),
+            Key::Size => put(&mut self.size, size_beside(self.kind, self.dim, value)),
+            Key::Seed => put(&mut self.seed, seed(value)),
             Key::Table => put(&mut self.table, file_name(value)),
             Key::Grid => put(&mut self.grid, file_name(value)),
             Key::Iso => put(&mut self.iso, isovalue(value)),
@@ -76,6 +82,15 @@ impl<'a> Given<'a> {
             },
             CommandName::Extract => match (self.table, self.grid, self.iso) {
                 (Some(table), Some(grid), Some(iso)) => Some(Command::Extract { table, grid, iso }),
+                _ => None,
+            },
+            CommandName::Demo => match (self.kind, self.dim, self.size, self.seed) {
+                (Some(kind), Some(dim), Some(size), Some(seed)) => Some(Command::Demo {
+                    kind,
+                    dim,
+                    size,
+                    seed,
+                }),
                 _ => None,
             },
             CommandName::Convert => match self.table {

@@ -6,6 +6,7 @@ pub(crate) enum CommandName {
     Generate,
     Check,
     Extract,
+    Demo,
     Convert,
     Audit,
 }
@@ -24,6 +25,8 @@ impl CommandName {
             Some(CommandName::Check)
         } else if word == "extract" {
             Some(CommandName::Extract)
+        } else if word == "demo" {
+            Some(CommandName::Demo)
         } else if word == "convert" {
             Some(CommandName::Convert)
         } else if word == "audit" {
@@ -41,6 +44,7 @@ impl CommandName {
             CommandName::Generate => matches!(key, Key::Kind | Key::Dim),
             CommandName::Check => matches!(key, Key::Table),
             CommandName::Extract => matches!(key, Key::Table | Key::Grid | Key::Iso),
+            CommandName::Demo => matches!(key, Key::Kind | Key::Dim | Key::Size | Key::Seed),
             CommandName::Convert => matches!(key, Key::Table),
             CommandName::Audit => matches!(key, Key::Mesh),
         }
@@ -52,6 +56,8 @@ impl CommandName {
 pub(crate) enum Key {
     Kind,
     Dim,
+    Size,
+    Seed,
     Table,
     Grid,
     Iso,
@@ -70,6 +76,10 @@ impl Key {
             Some(Key::Kind)
         } else if text == "dim" {
             Some(Key::Dim)
+        } else if text == "size" {
+            Some(Key::Size)
+        } else if text == "seed" {
+            Some(Key::Seed)
         } else if text == "table" {
             Some(Key::Table)
         } else if text == "grid" {

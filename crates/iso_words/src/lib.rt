@@ -8,12 +8,14 @@
 //! | `generate kind=K dim=N` | the table of the construction, of a kind and a dimension |
 //! | `check table=F` | whether the table of the file is accepted |
 //! | `extract table=F grid=F iso=N` | the mesh of the grid at the isovalue |
+//! | `demo kind=K dim=N size=N seed=N` | what the demonstration says of a mesh of a grid that is made |
 //! | `convert table=F` | the table of the file in version 2 of the format |
 //! | `audit mesh=F` | whether the simplices of the mesh file are glued |
 //!
 //! K is `cube`, `simplex` or `pyramid`, and F is a file name of at least one character. N is an optional `-` and
-//! digits, without a leading zero but `0` itself, and not `-0`. A dimension is 2, 3 or 4, and 3 with `pyramid`; an
-//! isovalue lies from -1099511627776 to 1099511627776. Letter case matters everywhere.
+//! digits, without a leading zero but `0` itself, and not `-0`. A dimension is 2, 3 or 4, and 3 with `pyramid`; a size
+//! lies from 1 to 256 in two dimensions, to 64 in three and to 16 in four; a seed lies from 0 to 4294967295, and an
+//! isovalue from -1099511627776 to 1099511627776. Letter case matters everywhere.
 #![tactic(auto)]
 
 ghost use Rattle.std.specs.Prelude.{◌≡◌, ℕ, IfOk, IfErr, IsOkAnd, IsErrAnd};
@@ -45,6 +47,13 @@ pub enum Command<'a> {
         table: &'a str,
         grid: &'a str,
         iso: i64,
+    },
+    /// Say numbers of the mesh of a grid that is made of a seed, with as many samples on each axis.
+    Demo {
+        kind: Kind,
+        dim: u8,
+        size: u64,
+        seed: u32,
     },
     /// Put the table of a file in version 2 of the format.
     Convert {

@@ -25,6 +25,15 @@ const fn extract<'a>(table: &'a str, grid: &'a str, iso: i64) -> Command<'a> {
     Command::Extract { table, grid, iso }
 }
 
+const fn demo<'a>(kind: Kind, dim: u8, size: u64, seed: u32) -> Command<'a> {
+    Command::Demo {
+        kind,
+        dim,
+        size,
+        seed,
+    }
+}
+
 const fn convert(table: &str) -> Command<'_> {
     Command::Convert { table }
 }
@@ -51,6 +60,23 @@ fn right_words_say_their_command(rt: HostRuntime) -> Result<(), Fail> {
         ("generate dim=3 kind=simplex", generate(Kind::Simplex, 3)),
         ("generate dim=4 kind=simplex", generate(Kind::Simplex, 4)),
         ("generate dim=3 kind=pyramid", generate(Kind::Pyramid, 3)),
+        // the greatest sizes and the greatest seed, with the keys in other orders
+        (
+            "demo kind=cube dim=2 size=256 seed=0",
+            demo(Kind::Cube, 2, 256, 0),
+        ),
+        (
+            "demo size=64 seed=7 dim=3 kind=simplex",
+            demo(Kind::Simplex, 3, 64, 7),
+        ),
+        (
+            "demo seed=4294967295 size=16 kind=cube dim=4",
+            demo(Kind::Cube, 4, 16, 4294967295),
+        ),
+        (
+            "demo size=64 kind=pyramid dim=3 seed=1",
+            demo(Kind::Pyramid, 3, 64, 1),
+        ),
         // file names
         ("check table=a", check("a")),
         ("check table==x=y", check("=x=y")),
@@ -91,7 +117,7 @@ fn right_words_say_their_command(rt: HostRuntime) -> Result<(), Fail> {
 }
 
 // Lines, and the number of the first word that is wrong.
-const WRONG_WORDS: [(&str, u32); 77] = [
+const WRONG_WORDS: [(&str, u32); 85] = [
     // commands
     ("", 1),
     (" ", 1),
@@ -101,7 +127,6 @@ const WRONG_WORDS: [(&str, u32); 77] = [
     ("CHECK", 1),
     ("check=a table=a", 1),
     ("Generate kind=cube dim=2", 1),
-    ("demo kind=cube dim=2 size=2 seed=0", 1),
     // a key is missing
     ("generate", 2),
     ("generate kind=cube", 3),
@@ -156,6 +181,16 @@ const WRONG_WORDS: [(&str, u32); 77] = [
     ("generate kind=pyramid dim=2", 3),
     ("generate dim=2 kind=pyramid", 3),
     ("generate dim=4 kind=pyramid", 3),
+    // a size that goes with no kind and dimension that were given, or with none at all
+    ("demo kind=cube dim=2 size=0 seed=5", 4),
+    ("demo size=65 kind=pyramid", 3),
+    ("demo kind=pyramid size=65", 3),
+    ("demo size=256 seed=0 dim=3", 4),
+    ("demo size=257", 2),
+    ("demo kind=cube dim=4 size=17", 4),
+    ("demo seed=4294967296", 2),
+    ("demo seed=-1", 2),
+    ("demo kind=cube dim=2 size=2", 5),
     // a file name or an isovalue
     ("check table=", 2),
     ("convert table=", 2),

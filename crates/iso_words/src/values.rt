@@ -1,4 +1,4 @@
-//! The values of keys: kinds, dimensions, file names and isovalues.
+//! The values of keys: kinds, dimensions, sizes, seeds, file names and isovalues.
 
 ghost use Rattle.std.specs.Prelude.{◌≡◌, ℤ, [], MatchOption, drop, FitsSigned, if◌then◌else◌};
 ghost use Rattle.std.specs.Int.{w64};
@@ -6,8 +6,9 @@ ghost use Rattle.std.specs.Bool.{OnTrue, OnFalse};
 ghost use Rattle.std.specs.Str.{all_ascii_digits};
 ghost use Rattle.std.specs.Str.Parse.{starts_with_minus};
 ghost use Rattle.iso_model.specs.Cells.{HasDimension};
-ghost use Rattle.iso_commands.specs.Commands.{is_number, IsNumber};
-ghost use Rattle.iso_words.specs.Given.{are_digits_alone, IsKind, IsDimension, IsFile, IsIsovalue, IsKindBeside, IsDimensionBeside};
+ghost use Rattle.iso_commands.specs.Commands.{is_number, IsNumber, size_limit};
+ghost use Rattle.iso_words.specs.Given.{are_digits_alone, IsKind, IsDimension, IsSize, IsSeed, IsFile, IsIsovalue};
+ghost use Rattle.iso_words.specs.Given.{Fit, HasGiven, widest, IsKindBeside, IsDimensionBeside, IsSizeBeside};
 ghost use Rattle.iso_words.specs.Keys.{Finds};
 
 use iso_model::Kind;
@@ -15,29 +16,90 @@ use iso_model::Kind;
 // The greatest size of an isovalue.
 const ISO_LIMIT: i64 = 1 << 40;
 
-// A kind, which has the dimension that was given, if one was.
-pub(crate) fn kind_beside(dim: Option<u8>, value: &str) -> Option<Kind>
-    ensures { Finds (IsKindBeside dim value.now) result }
+// A kind that goes with the dimension and the size, as far as they were given.
+pub(crate) fn kind_beside(dim: Option<u8>, size: Option<u64>, value: &str) -> Option<Kind>
+    ensures { Finds (IsKindBeside dim size value.now) result }
 {
     let Some(kind) = kind_named(value) else {
         return None;
     };
-    match dim {
-        Some(dim) if !has_dimension(kind, dim) => None,
-        _ => Some(kind),
+    if fit(Some(kind), dim, size) {
+        Some(kind)
+    } else {
+        None
     }
 }
 
-// A dimension, which the kind has that was given, if one was.
-pub(crate) fn dimension_beside(kind: Option<Kind>, value: &str) -> Option<u8>
-    ensures { Finds (IsDimensionBeside kind value.now) result }
+// A dimension that goes with the kind and the size, as far as they were given.
+pub(crate) fn dimension_beside(kind: Option<Kind>, size: Option<u64>, value: &str) -> Option<u8>
+    ensures { Finds (IsDimensionBeside kind size value.now) result }
 {
     let Some(dim) = dimension(value) else {
         return None;
     };
-    match kind {
-        Some(kind) if !has_dimension(kind, dim) => None,
-        _ => Some(dim),
+    if fit(kind, Some(dim), size) {
+        Some(dim)
+    } else {
+        None
+    }
+}
+
+// A size that goes with the kind and the dimension, as far as they were given.
+pub(crate) fn size_beside(kind: Option<Kind>, dim: Option<u8>, value: &str) -> Option<u64>
+    ensures { Finds (IsSizeBeside kind dim value.now) result }
+{
+    let Some(size) = plain_size(value) else {
+        return None;
+    };
+    if fit(kind, dim, Some(size)) {
+        Some(size)
+    } else {
+        None
+    }
+}
+
+// Whether a kind, a dimension and a size go together, as far as they were given.
+fn fit(kind: Option<Kind>, dim: Option<u8>, size: Option<u64>) -> bool
+    ensures yes { OnTrue result (Fit kind dim size) }
+    ensures no { OnFalse result (¬ Fit kind dim size) }
+{
+    match size {
+        Some(size) => has_given(kind, dim) && size <= most_size(widest(kind, dim)),
+        None => has_given(kind, dim),
+    }
+}
+
+// Whether the kind has the dimension, where both were given.
+fn has_given(kind: Option<Kind>, dim: Option<u8>) -> bool
+    ensures yes { OnTrue result (HasGiven kind dim) }
+    ensures no { OnFalse result (¬ HasGiven kind dim) }
+{
+    match (kind, dim) {
+        (Some(kind), Some(dim)) => has_dimension(kind, dim),
+        _ => true,
+    }
+}
+
+// The dimension of the grids with the greatest sizes, among those that go with a kind and a dimension, as far as they
+// were given.
+fn widest(kind: Option<Kind>, dim: Option<u8>) -> u8
+    ensures { result ≡ widest kind dim }
+{
+    match (kind, dim) {
+        (_, Some(dim)) => dim,
+        (Some(Kind::Pyramid), None) => 3,
+        (_, None) => 2,
+    }
+}
+
+// The greatest size of a grid of this dimension.
+fn most_size(dim: u8) -> u64
+    ensures { result ≡ size_limit dim }
+{
+    match dim {
+        2 => 256,
+        3 => 64,
+        _ => 16,
     }
 }
 
@@ -78,6 +140,34 @@ fn has_dimension(kind: Kind, dim: u8) -> bool
     match kind {
         Kind::Cube | Kind::Simplex => (2..=4).contains(&dim),
         Kind::Pyramid => dim == 3,
+    }
+}
+
+// A size within the limits of two dimensions, the widest ones.
+fn plain_size(value: &str) -> Option<u64>
+    ensures { Finds (IsSize value.now) result }
+{
+    let Some(n) = number(value) else {
+        return None;
+    };
+    if (1..=256).contains(&n) {
+        Some(n as u64)
+    } else {
+        None
+    }
+}
+
+// A seed, of 32 bits.
+pub(crate) fn seed(value: &str) -> Option<u32>
+    ensures { Finds (IsSeed value.now) result }
+{
+    let Some(n) = number(value) else {
+        return None;
+    };
+    if (0..=4_294_967_295).contains(&n) {
+        Some(n as u32)
+    } else {
+        None
     }
 }
 

@@ -2,14 +2,14 @@ use Rattle.std.proofs.Common.{◌≡◌, true, refl, sym, ◌∙◌, subst}
 use Rattle.std.specs.Prelude.{codes}
 use Rattle.std.proofs.lemmas.Bool.{OnTrue_at, OnTrue_from, OnFalse_from}
 use Rattle.iso_words.specs.declared.keys.Key.{Key}
-use Rattle.iso_words.specs.declared.keys.Key.TheVariants.{Kind, Dim, Table, Grid, Iso, Mesh}
+use Rattle.iso_words.specs.declared.keys.Key.TheVariants.{Kind, Dim, Size, Seed, Table, Grid, Iso, Mesh}
 use Rattle.iso_words.specs.Keys.{has_key, HasValue}
-use Rattle.iso_words.specs.Given.{IsIsovalue}
+use Rattle.iso_words.specs.Given.{IsKind, IsDimension, IsSize, IsSeed, IsIsovalue, Fit}
 use Rattle.iso_words.proofs.KeyLemmas.{has_key_of-key, has_key_of-no_key}
-use Rattle.iso_words.proofs.StoodLemmas.{first_stands}
+use Rattle.iso_words.proofs.StoodLemmas.{first_beside, first_stands}
 use Rattle.iso_words.proofs.TakenLemmas.{Gave-taken}
 use Rattle.iso_words.proofs.RightLemmas.{not_begin-unkeyed}
-use Rattle.iso_words.proofs.TakeLemmas.{first_kind, first_dimension, never_kind, never_dimension, first_file, never_file, never_isovalue}
+use Rattle.iso_words.proofs.TakeLemmas.{never_kind, never_dimension, never_size, never_seed, first_file, never_file, never_isovalue}
 use Rattle.iso_words.proofs.given.Given.take.Goals as goal
 
 pub returns-in_default-clause-refused : goal.returns-in_default-clause-refused
@@ -26,8 +26,8 @@ returns-in-Kind-clause-taken c = λ further g. OnTrue_from c.put.result _ (λ t.
     let e = subst (λ (k : Key). HasValue c.args.word.now k c.in-Some.value.now) c.in-Kind.is c.in-Some.ensures in
     let has = subst (λ (k : Key). true ≡ has_key c.args.name k) c.in-Kind.is c.if-not-has.ensures in
     let first =
-    first_kind further c.args.word.now c.in-Some.value.now c.args.self.now.kind c.kind_beside.result c.args.self.now.dim e (g.stood Kind) g.fits
-    c.kind_beside.ensures (sym c.put.ensures.first ∙ t) in
+    first_beside IsKind (λ o. Fit o c.args.self.now.dim c.args.self.now.size) c.args.self.now.kind c.kind_beside.result (codes "kind") further c.args.word.now
+    c.in-Some.value.now e (g.stood Kind) (sym c.put.ensures.first ∙ t) c.kind_beside.ensures in
     Gave-taken c.args.name Kind c.args.self.now _ further c.args.word.now c.in-Some.value.now (sym has) e refl
     (rw (OnTrue_at t c.put.ensures.value) first.0) (rw (OnTrue_at t c.put.ensures.value) first.1) g)
 
@@ -35,16 +35,16 @@ pub returns-in-Kind-clause-refused : goal.returns-in-Kind-clause-refused
 returns-in-Kind-clause-refused c = λ further g. OnFalse_from c.put.result _ (λ t.
     let e = subst (λ (k : Key). HasValue c.args.word.now k c.in-Some.value.now) c.in-Kind.is c.in-Some.ensures in
     let has = subst (λ (k : Key). true ≡ has_key c.args.name k) c.in-Kind.is c.if-not-has.ensures in
-    never_kind c.args.name further c.args.word.now c.in-Some.value.now c.args.self.now.kind c.kind_beside.result c.args.self.now.dim (sym has) e
-    (g.stood Kind) (g.stood Dim) g.fits c.kind_beside.ensures (sym c.put.ensures.first ∙ t))
+    never_kind c.args.name further c.args.word.now c.in-Some.value.now c.args.self.now.kind c.kind_beside.result c.args.self.now.dim
+    c.args.self.now.size (sym has) e (g.stood Kind) (g.stood Dim) (g.stood Size) g.fits c.kind_beside.ensures (sym c.put.ensures.first ∙ t))
 
 pub returns-in-Dim-clause-taken : goal.returns-in-Dim-clause-taken
 returns-in-Dim-clause-taken c = λ further g. OnTrue_from c.put-in-Dim.result _ (λ t.
     let e = subst (λ (k : Key). HasValue c.args.word.now k c.in-Some.value.now) c.in-Dim.is c.in-Some.ensures in
     let has = subst (λ (k : Key). true ≡ has_key c.args.name k) c.in-Dim.is c.if-not-has.ensures in
     let first =
-    first_dimension further c.args.word.now c.in-Some.value.now c.args.self.now.dim c.dimension_beside.result c.args.self.now.kind e (g.stood Dim) g.fits
-    c.dimension_beside.ensures (sym c.put-in-Dim.ensures.first ∙ t) in
+    first_beside IsDimension (λ o. Fit c.args.self.now.kind o c.args.self.now.size) c.args.self.now.dim c.dimension_beside.result (codes "dim") further
+    c.args.word.now c.in-Some.value.now e (g.stood Dim) (sym c.put-in-Dim.ensures.first ∙ t) c.dimension_beside.ensures in
     Gave-taken c.args.name Dim c.args.self.now _ further c.args.word.now c.in-Some.value.now (sym has) e refl
     (rw (OnTrue_at t c.put-in-Dim.ensures.value) first.0) (rw (OnTrue_at t c.put-in-Dim.ensures.value) first.1) g)
 
@@ -53,7 +53,41 @@ returns-in-Dim-clause-refused c = λ further g. OnFalse_from c.put-in-Dim.result
     let e = subst (λ (k : Key). HasValue c.args.word.now k c.in-Some.value.now) c.in-Dim.is c.in-Some.ensures in
     let has = subst (λ (k : Key). true ≡ has_key c.args.name k) c.in-Dim.is c.if-not-has.ensures in
     never_dimension c.args.name further c.args.word.now c.in-Some.value.now c.args.self.now.dim c.dimension_beside.result c.args.self.now.kind
-    (sym has) e (g.stood Dim) (g.stood Kind) g.fits c.dimension_beside.ensures (sym c.put-in-Dim.ensures.first ∙ t))
+    c.args.self.now.size (sym has) e (g.stood Dim) (g.stood Kind) (g.stood Size) g.fits c.dimension_beside.ensures (sym c.put-in-Dim.ensures.first ∙ t))
+
+pub returns-in-Size-clause-taken : goal.returns-in-Size-clause-taken
+returns-in-Size-clause-taken c = λ further g. OnTrue_from c.put-in-Size.result _ (λ t.
+    let e = subst (λ (k : Key). HasValue c.args.word.now k c.in-Some.value.now) c.in-Size.is c.in-Some.ensures in
+    let has = subst (λ (k : Key). true ≡ has_key c.args.name k) c.in-Size.is c.if-not-has.ensures in
+    let first =
+    first_beside IsSize (λ o. Fit c.args.self.now.kind c.args.self.now.dim o) c.args.self.now.size c.size_beside.result (codes "size") further
+    c.args.word.now c.in-Some.value.now e (g.stood Size) (sym c.put-in-Size.ensures.first ∙ t) c.size_beside.ensures in
+    Gave-taken c.args.name Size c.args.self.now _ further c.args.word.now c.in-Some.value.now (sym has) e refl
+    (rw (OnTrue_at t c.put-in-Size.ensures.value) first.0) (rw (OnTrue_at t c.put-in-Size.ensures.value) first.1) g)
+
+pub returns-in-Size-clause-refused : goal.returns-in-Size-clause-refused
+returns-in-Size-clause-refused c = λ further g. OnFalse_from c.put-in-Size.result _ (λ t.
+    let e = subst (λ (k : Key). HasValue c.args.word.now k c.in-Some.value.now) c.in-Size.is c.in-Some.ensures in
+    let has = subst (λ (k : Key). true ≡ has_key c.args.name k) c.in-Size.is c.if-not-has.ensures in
+    never_size c.args.name further c.args.word.now c.in-Some.value.now c.args.self.now.size c.size_beside.result c.args.self.now.kind
+    c.args.self.now.dim (sym has) e (g.stood Size) (g.stood Kind) (g.stood Dim) g.fits c.size_beside.ensures (sym c.put-in-Size.ensures.first ∙ t))
+
+pub returns-in-Seed-clause-taken : goal.returns-in-Seed-clause-taken
+returns-in-Seed-clause-taken c = λ further g. OnTrue_from c.put-in-Seed.result _ (λ t.
+    let e = subst (λ (k : Key). HasValue c.args.word.now k c.in-Some.value.now) c.in-Seed.is c.in-Some.ensures in
+    let has = subst (λ (k : Key). true ≡ has_key c.args.name k) c.in-Seed.is c.if-not-has.ensures in
+    let first =
+    first_stands IsSeed c.args.self.now.seed c.seed.result (codes "seed") further c.args.word.now c.in-Some.value.now e (g.stood Seed)
+    (sym c.put-in-Seed.ensures.first ∙ t) c.seed.ensures in
+    Gave-taken c.args.name Seed c.args.self.now _ further c.args.word.now c.in-Some.value.now (sym has) e refl
+    (rw (OnTrue_at t c.put-in-Seed.ensures.value) first) g.fits g)
+
+pub returns-in-Seed-clause-refused : goal.returns-in-Seed-clause-refused
+returns-in-Seed-clause-refused c = λ further g. OnFalse_from c.put-in-Seed.result _ (λ t.
+    let e = subst (λ (k : Key). HasValue c.args.word.now k c.in-Some.value.now) c.in-Seed.is c.in-Some.ensures in
+    let has = subst (λ (k : Key). true ≡ has_key c.args.name k) c.in-Seed.is c.if-not-has.ensures in
+    never_seed c.args.name further c.args.word.now c.in-Some.value.now c.args.self.now.seed c.seed.result (sym has) e (g.stood Seed) c.seed.ensures
+    (sym c.put-in-Seed.ensures.first ∙ t))
 
 pub returns-in-Table-clause-taken : goal.returns-in-Table-clause-taken
 returns-in-Table-clause-taken c = λ further g. OnTrue_from c.put-in-Table.result _ (λ t.

@@ -1,0 +1,7 @@
+use Rattle.std.specs.Prelude.{pos}
+use Rattle.std.proofs.Common.{arith}
+use Rattle.iso_words.proofs.NumberLemmas.{short_fits}
+use Rattle.iso_words.proofs.values.plain_size.Goals as goal
+
+pub returns-in_default : goal.returns-in_default
+returns-in_default c = λ n h. c.in_default.ensures (pos n) (short_fits n (omega (arith, h.2))) h.0
