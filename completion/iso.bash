@@ -11,7 +11,7 @@ _iso() {
         key=${COMP_WORDS[COMP_CWORD - 2]} value=$word apart=yes
     fi
     if ((COMP_CWORD == 1)); then
-        COMPREPLY=($(compgen -W "generate check extract convert audit" -- "$word"))
+        COMPREPLY=($(compgen -W "generate check extract demo convert audit" -- "$word"))
         return
     fi
     local before=
@@ -28,13 +28,14 @@ _iso() {
             compopt -o filenames
             COMPREPLY=($(compgen -P "$before" -f -- "$value"))
             ;;
-        iso) ;;
+        iso | size | seed) ;;
         *)
             local keys= it left=
             case $command in
                 generate) keys="kind= dim=" ;;
                 check | convert) keys="table=" ;;
                 extract) keys="table= grid= iso=" ;;
+                demo) keys="kind= dim= size= seed=" ;;
                 audit) keys="mesh=" ;;
             esac
             for it in $keys; do

@@ -21,6 +21,7 @@ use Rattle.iso_cli.specs.Outputs.{BlamesOutput}
 use Rattle.iso_cli.specs.Statuses.{IsDecided, IsDoneOrMemory, IsUsage}
 use Rattle.iso_cli.specs.StatusLines.{status_line}
 use Rattle.iso_cli.proofs.Auditing.{not_refused_audit}
+use Rattle.iso_cli.proofs.Demonstrating.{not_refused_made}
 use Rattle.iso_cli.proofs.Excluding.{not_refused_check, not_refused_file, not_refused_mesh}
 
 -- ---- the files
@@ -147,7 +148,7 @@ not_refused (Some files) (generate_command kind d) status told holds refused = r
 not_refused (Some files) (check_command table) status told holds refused = not_refused_check files table holds.0 status holds.1 refused
 not_refused (Some files) (extract_command table grid iso) status told holds refused =
     not_refused_mesh files table grid holds.0 holds.1 status holds.2 refused
-not_refused (Some files) (demo_command kind d size seed) status told holds refused = holds
+not_refused (Some files) (demo_command kind d size seed) status told holds refused = not_refused_made kind d holds.0 status holds.1 holds.2 refused
 not_refused (Some files) (convert_command table) status told holds refused = not_refused_file files table holds.0 status holds.1 refused
 not_refused (Some files) (audit_command mesh) status told holds refused = not_refused_audit files mesh holds.0 status holds.1 refused
 

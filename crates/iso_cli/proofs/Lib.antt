@@ -5,6 +5,7 @@ pub mod Accepting
 pub mod Putting
 pub mod Excluding
 pub mod Auditing
+pub mod Demonstrating
 pub mod Answering
 pub mod OneRefusal
 pub mod TextSurfaces

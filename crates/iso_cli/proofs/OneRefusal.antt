@@ -2,6 +2,7 @@
 use Rattle.std.proofs.Common.{◌≡◌, ℕ, ◌<◌, List, length, Option, Some, refl, sym, ap, subst, ◌∙◌, inl, inr, arith}
 use Rattle.std.proofs.lemmas.Bool.{cases_lt, false≢true}
 use Rattle.iso_base.specs.Files.{Files}
+use Rattle.iso_model.specs.declared.Kind.{Kind}
 use Rattle.iso_model.specs.Acceptance.{IsRefusedAt}
 use Rattle.iso_model.specs.Tables.{Table}
 use Rattle.iso_commands.specs.Commands.{Command, IsWrongWord}
@@ -21,6 +22,7 @@ use Rattle.iso_words.proofs.WrongLemmas.{IsWrongWord-one, Say-one, never_said}
 use Rattle.iso_cli.specs.declared.status.Status.{Status}
 use Rattle.iso_cli.specs.declared.status.Status.TheVariants as Statuses
 use Rattle.iso_cli.specs.Audits.{IsRefusedAudit}
+use Rattle.iso_cli.specs.Demonstrations.{IsRefusedMade, made_refused}
 use Rattle.iso_cli.specs.OneAnswer.{HaveOneAnswer, LackWhereRefused}
 use Rattle.iso_cli.specs.Refusals.{IsFileOf, IsRefusedByRule, IsRefusedForm, IsRefusedGrid, IsRefusedMesh, IsRefusedTable}
 use Rattle.iso_cli.specs.Refusals.{by_form, by_grid, by_rule, by_table, grid_refusal, no_header, no_samples, no_table, not_accepted, table_refusal, too_long, unfit}
@@ -28,6 +30,7 @@ use Rattle.iso_cli.specs.Runs.{AreRefused, IsTrueAnswer}
 use Rattle.iso_cli.specs.Statuses.{IsUsage}
 use Rattle.iso_cli.proofs.Answering.{answerable, decided_answer}
 use Rattle.iso_cli.proofs.Auditing.{one_audit_refusal}
+use Rattle.iso_cli.proofs.Demonstrating.{same_made}
 use Rattle.iso_cli.proofs.Excluding.{both_have, not_refused_check, not_refused_form, one_head}
 
 -- ---- tables
@@ -79,6 +82,10 @@ one_table_refusal bytes a b (by_form p) (by_form q) = one_form bytes a b p q
 one_table_refusal bytes a b (by_form p) (by_rule q) = absurd (form_or_rule bytes a b p q)
 one_table_refusal bytes a b (by_rule p) (by_form q) = absurd (form_or_rule bytes b a q p)
 one_table_refusal bytes a b (by_rule p) (by_rule q) = one_rule bytes a b p q
+
+one_made_refusal : (kind : Kind) (d : ℕ) (a b : Status) → IsRefusedMade kind d a → IsRefusedMade kind d b → a ≡ b
+one_made_refusal kind d _ _ (made_refused t label r made at) (made_refused u m q made' at') =
+    one_verdict t label r m q at (subst (λ (x : Table). IsRefusedAt x m q) (same_made kind d u t made' made) at')
 
 -- ---- grids
 
@@ -156,7 +163,7 @@ one_refusal files (check_command table) a b p q =
     let both = both_have files table (λ bytes. IsRefusedTable bytes a) (λ bytes. IsRefusedTable bytes b) p q in
     one_table_refusal both.0 a b both.1 both.2
 one_refusal files (extract_command table grid iso) a b p q = one_mesh_refusal files table grid a b p q
-one_refusal files (demo_command kind d size seed) a b p q = absurd p
+one_refusal files (demo_command kind d size seed) a b p q = one_made_refusal kind d a b p q
 one_refusal files (convert_command table) a b p q =
     let both = both_have files table (λ bytes. IsRefusedForm bytes a) (λ bytes. IsRefusedForm bytes b) p q in
     one_form both.0 a b both.1 both.2

@@ -7,6 +7,7 @@ pub mod Refusals
 pub mod Rests
 pub mod Outputs
 pub mod Audits
+pub mod Demonstrations
 pub mod Meanings
 pub mod Runs
 pub mod OneAnswer

@@ -7,6 +7,7 @@ use Rattle.iso_model.specs.Tables.{Table}
 use Rattle.iso_model.specs.Values.{Grid}
 use Rattle.iso_cli.specs.declared.status.Status.{Status}
 use Rattle.iso_cli.specs.Audits.{HoldsGlued, IsCleanLine, IsRefusedAudit, LeavesOff}
+use Rattle.iso_cli.specs.Demonstrations.{IsDemonstration, IsMadeAccepted, IsRefusedMade}
 use Rattle.iso_cli.specs.Outputs.{IsAcceptance, IsConverted, IsGenerated, IsMeshText}
 use Rattle.iso_cli.specs.Refusals.{HoldBoth, HoldsAccepted, HoldsTable, IsRefusedFile, IsRefusedForm, IsRefusedMesh, IsRefusedTable, LacksMeshFile}
 use Rattle.iso_cli.specs.Rests.{LeavesMeshFile, LeavesTableFile}
@@ -33,17 +34,6 @@ without_files IsText = record {
   puts = λ files text. IsText text;
 }
 
--- a command that is not built is never done
-abbrev pub unbuilt : Meaning
-unbuilt = record {
-  reads = [];
-  needs = λ files. ⊥;
-  refuses = λ files status. ⊥;
-  leaves = λ files status rest. ⊤;
-  lacks = λ files. ⊥;
-  puts = λ files text. ⊥;
-}
-
 abbrev pub meaning : Command → Meaning
 -- the table of the construction
 meaning (generate_command kind d) = without_files (IsGenerated kind d)
@@ -65,7 +55,15 @@ meaning (extract_command table grid iso) = record {
   lacks = λ files. LacksMeshFile files table grid;
   puts = λ files text. IsMeshText files table grid iso text;
 }
-meaning (demo_command kind d size seed) = unbuilt
+-- what is said of a mesh by the table of the construction, which is refused where it is not accepted
+meaning (demo_command kind d size seed) = record {
+  reads = [];
+  needs = λ files. IsMadeAccepted kind d;
+  refuses = λ files status. IsRefusedMade kind d status;
+  leaves = λ files status rest. ⊤;
+  lacks = λ files. ⊥;
+  puts = λ files text. IsDemonstration kind d size seed text;
+}
 -- version 2 of the table, whether or not it is accepted
 meaning (convert_command table) = record {
   reads = table ∷ [];

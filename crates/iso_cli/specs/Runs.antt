@@ -83,9 +83,10 @@ IsOutput files text command = (meaning command).puts files text
 -- ---- commands without files
 
 -- for a command that reads no file, as for a generated table, the shelf is not touched, and the run ends with the whole output, with a fault of it,
--- or without memory
-abbrev pub NeedsNoFile : {S : Type 0} → List (List ℕ) → Status → S → S → Type 0
-NeedsNoFile words status old new = EachSaid words (λ command. files_named command ≡ [] → IsOfPutting status × (new ≡ old))
+-- without memory, or with a refusal that holds of the command
+abbrev pub NeedsNoFile : {S : Type 0} → Option Files → List (List ℕ) → Status → S → S → Type 0
+NeedsNoFile files words status old new =
+    EachSaid words (λ command. files_named command ≡ [] → (IsOfPutting status ⊎ AreRefused files status command) × (new ≡ old))
 
 -- ---- the line
 

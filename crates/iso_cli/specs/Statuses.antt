@@ -94,6 +94,20 @@ IsOfAudit (Statuses.MeshForm cause) = ⊤
 IsOfAudit (Statuses.AuditFault finding) = ⊤
 IsOfAudit status = ⊥
 
+-- a refusal that making and checking a table may end with
+abbrev pub IsOfMaking : Status → Type 0
+IsOfMaking Statuses.Memory = ⊤
+IsOfMaking (Statuses.TableRefused label r) = ⊤
+IsOfMaking status = ⊥
+
+-- how the demonstration may end
+abbrev pub IsOfDemonstration : Status → Type 0
+IsOfDemonstration Statuses.Done = ⊤
+IsOfDemonstration Statuses.Memory = ⊤
+IsOfDemonstration (Statuses.WriteFault count) = ⊤
+IsOfDemonstration (Statuses.TableRefused label r) = ⊤
+IsOfDemonstration status = ⊥
+
 -- how putting the output may end
 abbrev pub IsOfPutting : Status → Type 0
 IsOfPutting Statuses.Done = ⊤

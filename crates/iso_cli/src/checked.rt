@@ -114,7 +114,8 @@ fn certify_hyperspace<R: Threads + Sync, G: Gate + Sync>(
     }
 }
 
-fn certified<R: Threads + Sync, C: Cell<D> + Sync, const D: usize, G: Gate + Sync>(
+/// The table, if the check accepts it, where its cells are known.
+pub fn certified<R: Threads + Sync, C: Cell<D> + Sync, const D: usize, G: Gate + Sync>(
     workers: &Workers<R, G>,
     table: Table<D>,
 ) -> Result<Checked<C, D>, Status>

@@ -3,6 +3,7 @@
 
 mod audits;
 mod checked;
+mod demo;
 mod files;
 mod laws;
 mod line;

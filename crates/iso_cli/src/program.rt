@@ -10,6 +10,7 @@ ghost use Rattle.iso_cli.specs.Runs.{LeavesRest, LeavesShelf, NeedsNoFile, PutsL
 ghost use Rattle.iso_cli.specs.Statuses.{IsDoneOrMemory, IsUsage};
 
 use crate::audits::read_glued;
+use crate::demo::put_demonstration;
 use crate::files::{read_both, read_checked, read_table};
 use crate::line::status_text;
 use crate::output::{put_accepted, put_clean, put_mesh, put_table, put_version_2};
@@ -57,7 +58,7 @@ pub fn run<R: Threads + Sync, S: Shelf, O: Sink, E: Sink, G: Gate + Sync>(
     // its dimension or its size behind its header. Of a mesh file nothing is left, unless it is too long.
     ensures left { EachSaid (texts words.now) (LeavesRest (S.files shelf.old) result (S.rest shelf.new)) }
     // A command that reads no file, as that which generates a table, leaves the shelf alone.
-    ensures generated { NeedsNoFile (texts words.now) result shelf.old shelf.new }
+    ensures generated { NeedsNoFile (S.files shelf.old) (texts words.now) result shelf.old shelf.new }
 
     ensures line { PutsLine E.faults E.bytes result err.old err.new }
 {
@@ -83,12 +84,20 @@ fn perform<R: Threads + Sync, S: Shelf, O: Sink, G: Gate + Sync>(
     ensures output { LeavesOutput O.faults O.bytes
         (λ text. SayBuilt (texts words.now) (IsOutput (S.files shelf.old) text)) result out.old out.new }
     ensures left { EachSaid (texts words.now) (LeavesRest (S.files shelf.old) result (S.rest shelf.new)) }
-    ensures generated { NeedsNoFile (texts words.now) result shelf.old shelf.new }
+    ensures generated { NeedsNoFile (S.files shelf.old) (texts words.now) result shelf.old shelf.new }
 {
     match parse(words) {
         Ok(Command::Generate { kind, dim }) => put_table(workers, kind, dim, out),
         Ok(Command::Check { table }) => check(workers, table, shelf, out),
         Ok(Command::Extract { table, grid, iso }) => extract(workers, table, grid, iso, shelf, out),
+        Ok(
+            Command::Demo {
+                kind,
+                dim,
+                size,
+                seed,
+            },
+        ) => put_demonstration(workers, kind, dim, size, seed, out),
         Ok(Command::Convert { table }) => convert(workers.alloc, table, shelf, out),
         Ok(Command::Audit { mesh }) => audit(workers.alloc, mesh, shelf, out),
         Err(WrongWord(place)) => Status::Usage(place),

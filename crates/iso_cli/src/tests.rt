@@ -10,8 +10,14 @@ use worked_tables::{SQUARE, SQUARE2, TETRAHEDRON, TRIANGLE};
 
 mod audited;
 mod converted;
+mod cut;
 mod decided;
+mod demonstrated;
 mod generated;
+mod parts;
+mod watched;
+
+use watched::{WatchedShelf, WatchedSink};
 
 const HEADER: &str = "NRRD0001\ntype: uint8\ndimension: 2\nsizes: 2 2\nencoding: raw\n\n";
 
@@ -147,7 +153,7 @@ fn file(alloc: Global, name: &str, pieces: &[&[u8]]) -> Result<MemFile, AllocErr
     })
 }
 
-fn shelf_of(alloc: Global, case: &Case) -> Result<MemShelf, AllocError> {
+fn shelf_of(alloc: Global, case: &Case) -> Result<WatchedShelf, AllocError> {
     failing_shelf(alloc, case, case.shelf_step, case.shelf_fails)
 }
 
@@ -157,16 +163,22 @@ fn failing_shelf(
     case: &Case,
     step: usize,
     fails: &[u64],
-) -> Result<MemShelf, AllocError> {
+) -> Result<WatchedShelf, AllocError> {
     let mut files = Vec::new(alloc);
     files.push(file(alloc, "table.tab", &case.table)?)?;
     files.push(file(alloc, "grid.nrrd", &[case.header.as_bytes(), case.samples])?)?;
     let fails = Vec::from_slice(alloc, fails)?;
-    Ok(MemShelf::new(files, fails, step.max(1)))
+    let shelf = MemShelf::new(files, fails, step.max(1));
+    Ok(WatchedShelf::new(shelf))
 }
 
 // Runs the case, and compares the status and what was put.
-fn check(rt: &(impl Abort + Threads + Sync), alloc: Global, number: usize, case: &Case) -> Result<(), Fail> {
+fn check(
+    rt: &(impl Abort + Threads + Sync),
+    alloc: Global,
+    number: usize,
+    case: &Case,
+) -> Result<(), Fail> {
     let mut shelf = shelf_of(alloc, case)?;
     check_over(rt, alloc, number, case, &mut shelf, case.status, case.line)
 }
@@ -177,23 +189,29 @@ fn check_over(
     alloc: Global,
     number: usize,
     case: &Case,
-    shelf: &mut MemShelf,
+    shelf: &mut WatchedShelf,
     status: Status,
     line: &str,
 ) -> Result<(), Fail> {
     let words = words_of(alloc, case.words)?;
     let fails = Vec::from_slice(alloc, case.out_fails)?;
-    let mut out = MemSink::new(alloc, 2000, fails, case.out_step.max(1))?;
+    let mut out = WatchedSink::new(MemSink::new(alloc, 2000, fails, case.out_step.max(1))?);
     let mut err = MemSink::new(alloc, 1000, Vec::new(alloc), 10)?;
     let answer = run_freely(rt, alloc, words.as_slice(), shelf, &mut out, &mut err);
     assert_eq!(rt; answer, status, "case {number}");
     assert_eq!(rt; out.bytes(), case.out.as_bytes(), "case {number}");
     assert_eq!(rt; err.bytes(), line.as_bytes(), "case {number}");
+    assert!(rt; shelf.is_called_rightly(), "case {number}");
+    assert!(rt; out.is_called_rightly(), "case {number}");
     Ok(())
 }
 
 // Checks each of the cases.
-fn check_all(rt: &(impl Abort + Threads + Sync), alloc: Global, cases: &[Case]) -> Result<(), Fail> {
+fn check_all(
+    rt: &(impl Abort + Threads + Sync),
+    alloc: Global,
+    cases: &[Case],
+) -> Result<(), Fail> {
     for (number, case) in cases.iter().enumerate() {
         check(rt, alloc, number, case)?;
     }

@@ -37,7 +37,12 @@ const fn refuses_to_make<'a>(words: &'a str, place: u32, line: &'a str) -> Makin
 }
 
 // Runs the case over a shelf whose first call fails, and sees that this call is still to come.
-fn check_making(rt: &(impl Abort + Threads + Sync), alloc: Global, number: usize, case: &Making) -> Result<(), Fail> {
+fn check_making(
+    rt: &(impl Abort + Threads + Sync),
+    alloc: Global,
+    number: usize,
+    case: &Making,
+) -> Result<(), Fail> {
     let words = words_of(alloc, case.words)?;
     let mut files = Vec::new(alloc);
     files.push(file(alloc, "table.tab", &[&SQUARE])?)?;

@@ -1,7 +1,11 @@
-use Rattle.std.proofs.Common.{refl}
-use Rattle.iso_commands.specs.Commands.{extract_command}
+use Rattle.std.proofs.Common.{◌≡◌, refl, subst}
+use Rattle.std.specs.Prelude.{◌⊎◌}
+use Rattle.iso_commands.specs.Commands.{Command, demo_command, extract_command}
 use Rattle.iso_words.specs.Built.{texts}
+use Rattle.iso_cli.specs.Runs.{AreRefused}
+use Rattle.iso_cli.specs.Statuses.{IsOfPutting}
 use Rattle.iso_cli.proofs.Answering.{said_answer}
+use Rattle.iso_cli.proofs.Demonstrating.{ends_or_refused, not_usage}
 use Rattle.iso_cli.proofs.program.perform.Goals as goal
 
 pub returns-in-Ok-Extract-clause-answer : goal.returns-in-Ok-Extract-clause-answer
@@ -10,6 +14,22 @@ returns-in-Ok-Extract-clause-answer g c =
     said_answer (g.S.Shelf.files c.args.shelf.now) (texts c.args.words.now) c.extract.result
     (extract_command c.in-Ok-Extract.table.now c.in-Ok-Extract.grid.now c.in-Ok-Extract.iso)
     c.extract.ensures.known refl said c.extract.ensures.answer
+
+pub returns-in-Ok-Demo-clause-answer : goal.returns-in-Ok-Demo-clause-answer
+returns-in-Ok-Demo-clause-answer g c =
+    let said = rw c.in-Ok-Demo.field-0-is at c.in-Ok-Demo.ensures.said in
+    said_answer (g.S.Shelf.files c.args.shelf.now) (texts c.args.words.now) c.put_demonstration.result
+    (demo_command c.in-Ok-Demo.kind c.in-Ok-Demo.dim c.in-Ok-Demo.size c.in-Ok-Demo.seed)
+    (not_usage c.put_demonstration.result c.put_demonstration.ensures.kinds) refl said c.put_demonstration.ensures.refused
+
+pub returns-in-Ok-Demo-clause-generated : goal.returns-in-Ok-Demo-clause-generated
+returns-in-Ok-Demo-clause-generated g c = λ command built said none.
+    let exact = rw c.in-Ok-Demo.field-0-is at c.in-Ok-Demo.ensures.exact in
+    let same : demo_command c.in-Ok-Demo.kind c.in-Ok-Demo.dim c.in-Ok-Demo.size c.in-Ok-Demo.seed ≡ command = exact command built said in
+    let status = c.put_demonstration.result in
+    let ends =
+    ends_or_refused c.in-Ok-Demo.kind c.in-Ok-Demo.dim status c.put_demonstration.ensures.kinds c.put_demonstration.ensures.refused in
+    (subst (λ (x : Command). IsOfPutting status ⊎ AreRefused (g.S.Shelf.files c.args.shelf.now) status x) same ends, refl)
 
 -- wrong words say no command
 pub returns-in-Err-clause-generated : goal.returns-in-Err-clause-generated
