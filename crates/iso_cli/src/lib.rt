@@ -17,6 +17,3 @@ pub use laws::one_answer_law;
 pub use line::status_text;
 pub use program::run;
 pub use status::{GridCause, OffCause, Status, TableCause, TableForm};
-
-#[cfg(test)]
-mod tests;

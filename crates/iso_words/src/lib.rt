@@ -94,6 +94,3 @@ pub fn parse(words: &[String]) -> Result<Command<'_>, WrongWord>
         None => Err(WrongWord(further.len() as u32 + 2)),
     }
 }
-
-#[cfg(test)]
-mod tests;

@@ -1,7 +1,7 @@
 ghost use Rattle.std.specs.Prelude.{◌≡◌, IfOk};
 
-use super::*;
 use iso_base::{MemFile, MemShelf, MemSink, OpenGate, Shelf, Sink};
+use iso_cli::{GridCause, OffCause, Status, TableCause, TableForm, run};
 use std::alloc::{AllocError, Global};
 use std::process::Abort;
 use std::test::Fail;

@@ -1,4 +1,5 @@
-use super::*;
+use iso_model::Kind;
+use iso_words::{Command, WrongWord, parse};
 use std::alloc::{AllocError, Global};
 use std::test::Fail;
 
