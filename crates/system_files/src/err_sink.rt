@@ -3,8 +3,9 @@
 ghost use Rattle.std.specs.Prelude.{None};
 
 use crate::put::put_flushed;
-use iso_base::{Failed, Sink};
+use iso_base::{Failed, Sink, put_all};
 use std::io::Stderr;
+use std::process::ExitCode;
 
 /// Standard error, without a buffer of its own. It tells nothing of content.
 #[derive(Drop)]
@@ -17,6 +18,12 @@ impl ErrSink {
     /// The sink over standard error.
     pub fn new(err: Stderr) -> ErrSink {
         ErrSink { err, faults: 0 }
+    }
+
+    /// Puts a line, and gives this exit code. A failure to put it changes no code.
+    pub fn end(&mut self, line: &str, code: u8) -> ExitCode {
+        let _ = put_all(self, line.as_bytes());
+        ExitCode::from(code)
     }
 }
 
