@@ -1,2 +1,3 @@
-mod FaultLists
+pub mod FaultLists
 mod OneFaultList
+mod FaultTexts

@@ -1,5 +1,5 @@
--- The lines of faults.
-use Rattle.std.specs.Prelude.{ℕ, List, [], ◌∷◌, ◌++◌, Option, None, Some, codes}
+-- The lines of faults, and the text of all.
+use Rattle.std.specs.Prelude.{ℕ, List, [], ◌∷◌, ◌++◌, flat_map, length, Option, None, Some, codes}
 use Rattle.std.specs.Fmt.{decimal}
 use Rattle.seam_traces.specs.declared.clashes.Clash.{Clash}
 use Rattle.table_faults.specs.declared.faults.Fault.{Fault}
@@ -20,3 +20,15 @@ rule_line label rule clash = rule_words label rule ++ clash_words clash ++ 10 �
 -- the line of a fault
 abbrev pub fault_line : Fault → List ℕ
 fault_line fault = rule_line fault.label fault.rule fault.clash
+
+-- the lines of faults, in their order
+abbrev pub fault_lines : List Fault → List ℕ
+fault_lines faults = flat_map fault_line faults
+
+-- the line that says how many faults there are, with LF
+abbrev pub count_line : ℕ → List ℕ
+count_line count = codes "faults " ++ decimal count ++ 10 ∷ []
+
+-- the text of faults: the line of each, in their order, and then how many there are
+abbrev pub faults_text : List Fault → List ℕ
+faults_text faults = fault_lines faults ++ count_line (length faults)

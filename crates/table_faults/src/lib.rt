@@ -8,6 +8,7 @@ mod faults;
 mod laws;
 mod lines;
 mod list;
+mod put;
 #[cfg(test)]
 mod tests;
 
@@ -15,3 +16,4 @@ pub use faults::Fault;
 pub use laws::{first_fault_law, no_fault_law, one_list_law};
 pub use lines::fault_text;
 pub use list::table_faults;
+pub use put::put_faults;
