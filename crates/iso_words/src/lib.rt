@@ -18,9 +18,11 @@
 //! isovalue from -1099511627776 to 1099511627776. Letter case matters everywhere.
 #![tactic(auto)]
 
-ghost use Rattle.std.specs.Prelude.{◌≡◌, ℕ, IfOk, IfErr, IsOkAnd, IsErrAnd};
-ghost use Rattle.iso_commands.specs.Commands.{Say, IsWrongWord};
+ghost use Rattle.std.specs.Prelude.{◌≡◌, ℕ, ◌+◌, ◌≤◌, ◌∷◌, codes, IfOk, IfErr, IsOkAnd, IsErrAnd};
+ghost use Rattle.iso_commands.specs.Commands.{Say, IsWrongWord, convert_command};
 ghost use Rattle.iso_words.specs.Built.{EachSaid, is_built, texts, asked};
+ghost use Rattle.iso_words.specs.Given.{SayNamed, name_of};
+ghost use Rattle.iso_words.specs.Keys.{name_text};
 
 mod given;
 mod keys;
@@ -83,14 +85,39 @@ pub fn parse(words: &[String]) -> Result<Command<'_>, WrongWord>
     let Some(name) = CommandName::named(first.as_str()) else {
         return Err(WrongWord(1));
     };
+    match parse_further(name, further) {
+        Ok(command) => Ok(command),
+        Err(wrong) => Err(WrongWord(wrong.0 + 1)),
+    }
+}
+
+/// The name of a table's file, where the words are those behind `convert`: the one word `table=F`. Else the first wrong
+/// word, counted from this one as 1.
+pub fn parse_table(words: &[String]) -> Result<&str, WrongWord>
+    ensures said { IfOk result (λ table. Say (codes "convert" ∷ texts words.now) (convert_command table.now)) }
+    ensures place { IfErr result (λ wrong. IsWrongWord is_built (codes "convert" ∷ texts words.now) (wrong.0 + 1)) }
+{
+    match parse_further(CommandName::Convert, words)? {
+        Command::Convert { table } => Ok(table),
+        _ => unreachable!(),
+    }
+}
+
+/// The command of this name that the words behind it say, or the first wrong one of these, counted from 1.
+fn parse_further(name: CommandName, further: &[String]) -> Result<Command<'_>, WrongWord>
+    ensures named { IfOk result (λ command. name_of command ≡ name) }
+    ensures said { IfOk result (λ command. SayNamed name (texts further.now) command) }
+    ensures place { IfErr result (λ wrong. IsWrongWord is_built (name_text name ∷ texts further.now) (wrong.0 + 1)) }
+    ensures few { IfErr result (λ wrong. wrong.0 ≤ 101) }
+{
     let mut given = Given::nothing();
     for (i, word) in further.iter().enumerate() {
         if !given.take(name, word.as_str()) {
-            return Err(WrongWord(i as u32 + 2));
+            return Err(WrongWord(i as u32 + 1));
         }
     }
     match given.command(name) {
         Some(command) => Ok(command),
-        None => Err(WrongWord(further.len() as u32 + 2)),
+        None => Err(WrongWord(further.len() as u32 + 1)),
     }
 }

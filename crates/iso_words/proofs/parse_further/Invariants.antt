@@ -1,7 +1,7 @@
 use Rattle.std.proofs.Common.{◌≡◌, take}
 use Rattle.iso_words.specs.Built.{texts}
 use Rattle.iso_words.specs.Given.{Gave, given_count}
-use Rattle.iso_words.proofs.parse.Given as goal
+use Rattle.iso_words.proofs.parse_further.Given as goal
 
 abbrev pub invariant-loop-i : goal.invariant-loop-i
 invariant-loop-i l = record {
