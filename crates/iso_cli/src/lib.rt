@@ -13,6 +13,7 @@ mod read;
 mod status;
 mod workers;
 
+pub use files::read_table;
 pub use laws::one_answer_law;
 pub use line::status_text;
 pub use program::run;
