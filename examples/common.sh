@@ -1,5 +1,5 @@
 # What the examples share: the program, a room for their files, and what is said of tools that are missing.
-# ISO names the program; where it is not set, it is the installed one, or the one that `rt ci` built.
+# ISO and FAULTS name the programs; where one is not set, it is the installed one, or the one that `rt ci` built.
 # With a folder as its word, an example leaves its files there; else they are removed at the end.
 set -euo pipefail
 example=$(basename "$(dirname "$(readlink -f "$0")")")
@@ -12,6 +12,7 @@ if ! command -v "$program" > /dev/null; then
 fi
 program=$(readlink -f "$(command -v "$program")")
 iso() { "$program" "$@"; }
+faults=${FAULTS:-$(command -v faults || echo "$examples/../crates/faults/out/faults")}
 
 need() { # PACKAGE TOOL: ends the example where the tool is not there
     command -v "$2" > /dev/null && return

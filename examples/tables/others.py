@@ -1,8 +1,8 @@
 #!/usr/bin/env python3
-"""What the check says of the marching cubes tables that other tools ship: others.py [TOOL=FILE ..]
+"""Which labels of the marching cubes tables that other tools ship fail a rule: others.py [TOOL=FILE ..]
 
 It reads the files of tools that are installed, or the files that the words name, makes table files of what stands in
-them, and asks the program (ISO, or `iso`). It ships no table of another tool.
+them, and asks the program (FAULTS, or `faults`). It ships no table of another tool.
 
 A table of another tool has numbers of corners and edges of its own, and takes the bits of a label for samples above or
 below. So the two ways to set the corners, the two of edges 10 and 11, the two signs and the two turns are tried, and the
@@ -16,7 +16,7 @@ import subprocess
 import sys
 import tempfile
 
-PROGRAM = os.environ.get("ISO", "iso")
+PROGRAM = os.environ.get("FAULTS", "faults")
 PYTHON = "/usr/lib/python3/dist-packages"
 # The tools: the pattern of the file's name, and the words behind which the table stands in it.
 TOOLS = {
@@ -81,60 +81,29 @@ def table_bytes(found):
     return out
 
 
-def check(found):
-    """What the check says: None of an accepted table, else the label and the rule."""
+def faults(found):
+    """The labels that fail a rule, in order, each with its least rule; none of an accepted table."""
     with tempfile.NamedTemporaryFile(suffix=".tab") as file:
         file.write(table_bytes(found))
         file.flush()
-        ran = subprocess.run([PROGRAM, "check", f"table={file.name}"], capture_output=True, text=True)
-    if ran.stdout == "accepted\n":
-        return None
-    return tuple(map(int, re.fullmatch(r"table refused: label (\d+) rule (\d+)\n", ran.stderr).groups()))
+        ran = subprocess.run([PROGRAM, f"table={file.name}"], capture_output=True, text=True)
+    if ran.returncode not in (0, 6):
+        sys.exit(f"{PROGRAM}: {ran.stderr}")
+    return [tuple(map(int, it)) for it in re.findall(r"^label (\d+) rule (\d+)", ran.stdout, re.M)]
 
 
-def decode(data):
-    """The entries of a table file of cubes of three dimensions."""
-    found, at = [], 16
-    for _ in range(256):
-        count = int.from_bytes(data[at : at + 4], "big")
-        row = data[at + 4 : at + 4 + 3 * count]
-        found.append([tuple(row[i : i + 3]) for i in range(0, len(row), 3)])
-        at += 4 + 3 * count
-    return found
-
-
-def generated():
-    """Entries that are accepted: the generated ones, and those of the opposite signs, turned."""
-    data = subprocess.run([PROGRAM, "generate", "kind=cube", "dim=3"], stdout=subprocess.PIPE, check=True).stdout
-    plain = decode(data)
-    return plain, [[(a, c, b) for a, b, c in plain[255 - label]] for label in range(256)]
-
-
-def failing(found, verdict, good):
-    """The labels and rules that fail: each is repaired by an entry of an accepted table, and the check is asked again."""
-    found, failed = list(found), []
-    while verdict:
-        label, rule = verdict
-        if failed and label <= failed[-1][0]:
-            return None
-        failed.append(verdict)
-        found[label] = good[label]
-        verdict = check(found)
-    return failed
-
-
-def asked(rows, goods):
-    """For each sign the best answer of the check, and all labels that fail where repairs show them."""
+def asked(rows):
+    """For each sign the best answer: the labels that fail."""
     answers = []
     for negative in (0, 1):
         tried = []
         for corners, edges, turned in itertools.product((CORNERS, MIRRORED), (EDGES, EXCHANGED), (False, True)):
             found = entries(rows, corners, edges, negative, turned)
-            verdict = check(found)
-            tried.append(((1, -verdict[0], -verdict[1]) if verdict else (0,), verdict, found, corners is MIRRORED, edges is EXCHANGED))
-        _, verdict, found, mirrored, exchanged = min(tried, key=lambda it: it[0])
-        lists = [it for it in (failing(found, verdict, good) for good in goods) if it is not None]
-        answers.append((verdict, min(lists, key=len) if lists else None, mirrored, exchanged, open_pairs(found)))
+            failed = faults(found)
+            first = (1, -failed[0][0], -failed[0][1]) if failed else (0,)
+            tried.append((first, failed, found, corners is MIRRORED, edges is EXCHANGED))
+        _, failed, found, mirrored, exchanged = min(tried, key=lambda it: it[0])
+        answers.append((failed, mirrored, exchanged, open_pairs(found)))
     return answers
 
 
@@ -167,13 +136,15 @@ def open_pairs(found):
     return pairs
 
 
-def said(verdict):
-    return "accepted" if verdict is None else f"label {verdict[0]} rule {verdict[1]}"
+def said(failed):
+    if not failed:
+        return "accepted"
+    label, rule = failed[0]
+    return f"label {label} rule {rule}; {len(failed)} labels fail, by the rules {sorted({it for _, it in failed})}"
 
 
 def main():
     given = dict(it.split("=", 1) for it in sys.argv[1:])
-    goods = generated()
     for tool, (pattern, marker) in TOOLS.items():
         paths = [given[tool]] if tool in given else sorted(glob.glob(pattern))
         if not paths:
@@ -182,13 +153,8 @@ def main():
         rows = read_rows(paths[0], marker, tool == "gnuplot-quads")
         if len(rows) != 256:
             sys.exit(f"{tool}: {paths[0]} has {len(rows)} rows behind {marker!r}")
-        for sign, (verdict, failed, mirrored, exchanged, opened) in zip(("bits above", "bits below"), asked(rows, goods)):
-            told = f"{tool}: {sign}: {said(verdict)}"
-            if failed:
-                told += f"; {len(failed)} labels fail, by the rules {sorted({rule for _, rule in failed})}"
-            elif failed is None:
-                told += "; repairs by generated entries do not fit"
-            told += f"; {opened} of 12288 pairs of cubes have an open edge"
+        for sign, (failed, mirrored, exchanged, opened) in zip(("bits above", "bits below"), asked(rows)):
+            told = f"{tool}: {sign}: {said(failed)}; {opened} of 12288 pairs of cubes have an open edge"
             print(told + "; axes mirrored" * mirrored + "; edges 10 and 11 exchanged" * exchanged)
 
 
