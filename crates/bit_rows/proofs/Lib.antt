@@ -1,4 +1,5 @@
 pub mod WordBits
 pub mod RowBits
+pub mod SetBelow
 pub mod WordSets
 pub mod SetPlaces

@@ -6,22 +6,16 @@ use Rattle.std.specs.Prelude.{Bool, List, None, false, true, length, min, nat_lt
 use Rattle.std.specs.Prelude.{◌&&◌, ◌||◌, ◌*◌, ◌+◌, ◌-◌, ◌<◌, ◌≤◌, ◌==◌, ◌^◌, ◌≡◌, ◌≢◌, ◌⊎◌}
 use Rattle.lists.specs.Bits.{is_set}
 use Rattle.lists.proofs.Tests.{and_true, of_lt, lt_of, or_false, same_tests}
-use Rattle.bit_rows.proofs.RowBits.{no_bits}
+use Rattle.bit_rows.proofs.SetBelow.{AreSetBelow, none_set_below, not_below, one_more_set}
 use Rattle.bit_rows.specs.Rows.{IsWordOf}
 use Rattle.bit_rows.specs.SampleRows.{is_clear_at}
 
 -- a word of the bits below a place: those that pass among the samples from `first` on
 abbrev pub IsWordBelow : (ℤ → Bool) → List ℤ → ℕ → ℕ → ℕ → Type 0
-IsWordBelow passes samples first place word = (k : ℕ) → k < 64 → is_set word k ≡ (nat_lt k place && passes (slice_index_or samples (first + k) (pos 0)))
-
-not_below : (k p : ℕ) → p ≤ k → nat_lt k p ≡ false
-not_below k p h = same_tests (nat_lt k p) false (λ e. let lt = lt_of k p e in absurd (omega arith)) (λ e. absurd (false≢true e))
+IsWordBelow passes samples first place word = AreSetBelow (λ k. passes (slice_index_or samples (first + k) (pos 0))) place word
 
 pub none_below : (passes : ℤ → Bool) (samples : List ℤ) (first : ℕ) → IsWordBelow passes samples first 0 0
-none_below passes samples first k h = no_bits k ∙ sym (ap (λ t. t && passes (slice_index_or samples (first + k) (pos 0))) (not_below k 0 (omega arith)))
-
-below_unless : (k p : ℕ) → k < p + 1 → k ≢ p → k < p
-below_unless k p h e = elim (cases_lt k p) [ inl lt ↦ lt | inr ge ↦ absurd (e (omega arith)) ]
+none_below passes samples first = none_set_below (λ k. passes (slice_index_or samples (first + k) (pos 0)))
 
 -- one place more
 pub one_more_place : (passes : ℤ → Bool) (samples : List ℤ) (first place word after : ℕ) (test : Bool)
@@ -29,27 +23,9 @@ pub one_more_place : (passes : ℤ → Bool) (samples : List ℤ) (first place w
     → IsWordBelow passes samples first place word
     → ((k : ℕ) → k < 64 → is_set after k ≡ (is_set word k || ((k == place) && test)))
     → IsWordBelow passes samples first (place + 1) after
-one_more_place passes samples first place word after test told before added k low =
-    added k low
-    ∙ ap (λ t. t || ((k == place) && test)) (before k low)
-    ∙ ap (λ t. (nat_lt k place && passes (slice_index_or samples (first + k) (pos 0))) || ((k == place) && t)) (sym told)
-    ∙ by_case (cases_eq k place)
-  where
-    there : ℕ → Bool
-    there j = passes (slice_index_or samples (first + j) (pos 0))
-
-    by_case : (k ≡ place) ⊎ (k ≢ place) → ((nat_lt k place && there k) || ((k == place) && there place)) ≡ (nat_lt k (place + 1) && there k)
-    by_case (inl e) =
-        let before_it : nat_lt k place ≡ false = not_below k place (omega (arith, e)) in
-        let within : nat_lt k (place + 1) ≡ true = of_lt k (place + 1) (omega (arith, e)) in
-        ap (λ t. (t && there k) || ((k == place) && there place)) before_it
-        ∙ ap (λ t. t && there place) (eq-eqb k place e) ∙ ap there (sym e) ∙ sym (ap (λ t. t && there k) within)
-    by_case (inr e) =
-        let same : nat_lt k place ≡ nat_lt k (place + 1) = same_tests (nat_lt k place) (nat_lt k (place + 1))
-        (λ t. let lt = lt_of k place t in of_lt k (place + 1) (omega arith))
-        (λ t. let lt = lt_of k (place + 1) t in of_lt k place (below_unless k place lt e)) in
-        ap (λ t. (nat_lt k place && there k) || (t && there place)) (ne_eqb k place e)
-        ∙ or_false (nat_lt k place && there k) ∙ ap (λ t. t && there k) same
+one_more_place passes samples first place word after test told before added =
+    one_more_set (λ k. passes (slice_index_or samples (first + k) (pos 0))) place word after before
+    (λ k low. added k low ∙ ap (λ t. is_set word k || ((k == place) && t)) (sym told))
 
 -- a word of as many ones as there are samples from the first of word w on, up to 64
 pub all_there : (samples : List ℤ) (w count word : ℕ) → 64 * w ≤ length samples → count ≡ min 64 (length samples - 64 * w) → word + 1 ≡ 2 ^ count

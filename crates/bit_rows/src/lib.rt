@@ -10,5 +10,5 @@ mod words;
 
 pub use ones::Ones;
 pub use rows::{down, up, word_count};
-pub use samples::{set_clear, set_signs};
+pub use samples::{set_clear, set_signs, with_test};
 pub use words::{bit, down_word, low_ones, ones_below, up_word};

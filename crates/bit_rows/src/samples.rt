@@ -73,8 +73,8 @@ fn is_other(sample: i64, value: i64) -> bool
     sample != value
 }
 
-// A word with the bit at this place set besides, where the test holds.
-fn with_test(word: u64, place: usize, test: bool) -> u64
+/// A word with the bit at this place set besides, where the test holds. The place is below 64.
+pub fn with_test(word: u64, place: usize, test: bool) -> u64
     requires { place < 64 }
     ensures { (k : ℕ) → k < 64 → is_set result k ≡ (is_set word k || (k == place && test)) }
 {
