@@ -57,7 +57,7 @@ up_words f w previous here word none some is bits first (suc k) h =
 -- ---- how many pass
 
 -- among the first places of a word
-counted_places : (f : ℕ → Bool) (w word n : ℕ) → IsWordOf f w word → n ≤ 64
+pub counted_places : (f : ℕ → Bool) (w word n : ℕ) → IsWordOf f w word → n ≤ 64
     → count_by f (numbers (64 * w + n)) ≡ count_by f (numbers (64 * w)) + count_by (is_set word) (numbers n)
 counted_places f w word zero is h =
     let same : 64 * w + 0 ≡ 64 * w = omega arith in

@@ -48,7 +48,7 @@ crossed false false true d = refl
 crossed false false false true = refl
 crossed false false false false = refl
 
-turned : (a b c d : Bool) → ((a || b) || (c || d)) ≡ ((a || c) || (b || d))
+pub turned : (a b c d : Bool) → ((a || b) || (c || d)) ≡ ((a || c) || (b || d))
 turned true b c d = refl
 turned false true true d = refl
 turned false true false d = refl

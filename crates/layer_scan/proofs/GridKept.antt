@@ -1,39 +1,25 @@
 -- The kept cubes of a grid around a row of midpoints, place by place.
 use Rattle.std.proofs.Common.{ap, arith, inl, inr, refl, sym, ◌∙◌}
-use Rattle.std.proofs.lemmas.Bool.{cases_eq, false≢true}
 use Rattle.std.proofs.lemmas.List.Folds.{list_any-append}
 use Rattle.std.proofs.Math.Bool.{and-false}
 use Rattle.std.specs.List.{list_any}
 use Rattle.std.specs.Prelude.{Bool, List, [], ◌∷◌, ◌++◌, false, flat_map, length, map, nat_lt, take, true}
 use Rattle.std.specs.Prelude.{ℕ, ◌&&◌, ◌||◌, ◌*◌, ◌+◌, ◌-◌, ◌/◌, ◌<◌, ◌≤◌, ◌≡◌, ◌≢◌, ◌⊎◌}
-use Rattle.lists.proofs.Tests.{lt_of, same_tests}
+use Rattle.lists.proofs.Tests.{or_false}
 use Rattle.iso_model.specs.Dimensions.{IsDimension, in_each_dimension}
 use Rattle.iso_model.specs.Values.{Volume}
+use Rattle.iso_model.proofs.DimensionLaws.{dimension_cases}
+use Rattle.bit_rows.proofs.SetBelow.{not_below}
 use Rattle.grid_rows.specs.declared.grids.GridRows.{GridRows}
 use Rattle.grid_rows.specs.declared.grids.MiddleAxis.{MiddleAxis}
 use Rattle.grid_rows.specs.declared.planes.BitPlane.{BitPlane}
 use Rattle.grid_rows.specs.RowNumbers.{upper_half}
 use Rattle.edge_middles.specs.WhatIsThere.{cubes_around, has_cube_at, is_kept_around, is_kept_at}
 use Rattle.layer_scan.specs.GridPlanes.{AreRowsOf, IsKeptUpright, after_first}
-use Rattle.layer_scan.proofs.GridCubes.{told_around}
-use Rattle.layer_scan.proofs.GridSlices.{axes_within}
-
-pub dimension : (d : ℕ) → (2 ≤ d) × (d ≤ 4) → IsDimension d
-dimension d is = by_case (cases_eq d 2) (cases_eq d 3)
-  where
-    by_case : (d ≡ 2) ⊎ (d ≢ 2) → (d ≡ 3) ⊎ (d ≢ 3) → IsDimension d
-    by_case (inl two) other = inl two
-    by_case (inr not_two) (inl three) = inr (inl three)
-    by_case (inr not_two) (inr not_three) = inr (inr (omega (arith, is.0, is.1, not_two, not_three)))
+use Rattle.layer_scan.proofs.GridCubes.{told_around, turned}
+use Rattle.layer_scan.proofs.GridSlices.{axes_between}
 
 -- ---- two places along an axis, and all along the others
-
-joined : (a b c d : Bool) → ((a || (b || false)) || (c || d)) ≡ ((a || c) || (b || d))
-joined true b c d = refl
-joined false true true d = refl
-joined false true false d = refl
-joined false false true d = refl
-joined false false false d = refl
 
 either_place : (test : List ℕ → Bool) (a b : ℕ) (rests : List (List ℕ))
     → list_any test (flat_map (λ rest. map (λ y. y ∷ rest) (a ∷ b ∷ [])) rests)
@@ -42,7 +28,8 @@ either_place test a b [] = refl
 either_place test a b (rest ∷ rests) =
     list_any-append test (map (λ y. y ∷ rest) (a ∷ b ∷ [])) (flat_map (λ r. map (λ y. y ∷ r) (a ∷ b ∷ [])) rests)
     ∙ ap (λ t. (test (a ∷ rest) || (test (b ∷ rest) || false)) || t) (either_place test a b rests)
-    ∙ joined (test (a ∷ rest)) (test (b ∷ rest)) (list_any (λ r. test (a ∷ r)) rests) (list_any (λ r. test (b ∷ r)) rests)
+    ∙ ap (λ t. (test (a ∷ rest) || t) || (list_any (λ r. test (a ∷ r)) rests || list_any (λ r. test (b ∷ r)) rests)) (or_false (test (b ∷ rest)))
+    ∙ turned (test (a ∷ rest)) (test (b ∷ rest)) (list_any (λ r. test (a ∷ r)) rests) (list_any (λ r. test (b ∷ r)) rests)
 
 -- the cubes at x and at these places along the middle axes, at a height
 abbrev pub level : Volume → ℕ → ℕ → ℕ → ℕ → ℕ → Bool
@@ -99,9 +86,6 @@ around_at v height x i j axes is = in_each_dimension (IsAroundAt v height x i j)
 
 -- ---- past the last cube along a middle axis
 
-pub not_below : (a b : ℕ) → b ≤ a → nat_lt a b ≡ false
-not_below a b h = same_tests (nat_lt a b) false (λ t. let lt = lt_of a b t in absurd (omega (arith, lt, h))) (λ t. absurd (false≢true t))
-
 pub none_past_second : (rows : GridRows) (sizes : List ℕ) (p q s x : ℕ) → 2 ≤ length sizes → length sizes ≤ 4 → AreRowsOf sizes rows
     → rows.second.cubes ≤ p → p < rows.second.samples → has_cube_at sizes (x ∷ after_first (length sizes) p q s) ≡ false
 none_past_second rows [] p q s x few most is h k = absurd (omega (arith, few))
@@ -157,7 +141,7 @@ upright_level v axes s x p q =
 pub kept_upright : (v : Volume) (rows : GridRows) (s : ℕ) (plane : BitPlane) → IsKeptUpright v rows s plane
 kept_upright v rows s plane fits is tells i j x h k =
     let axes : ℕ = length v.sizes in
-    let within = axes_within v.kind axes fits in
+    let within = axes_between axes (dimension_cases v.kind axes fits) in
     told_around rows plane x (level v axes (4 * s + 2) x) i j (record {
       clear = tells.clear;
       cubes = λ p q low near. tells.cubes p q x low near ∙ sym (upright_level v axes s x p q);
@@ -165,4 +149,4 @@ kept_upright v rows s plane fits is tells i j x h k =
           ∙ ap (λ t. t && v.kept (x ∷ after_first axes p q s)) (none_past_second rows v.sizes p q s x within.0 within.1 is low high);
       none_last = λ p q low high. upright_level v axes s x p q
           ∙ ap (λ t. t && v.kept (x ∷ after_first axes p q s)) (none_past_third rows v.sizes p q s x within.0 within.1 is low high);
-    }) h k ∙ sym (around_at v (4 * s + 2) x i j axes (dimension axes within))
+    }) h k ∙ sym (around_at v (4 * s + 2) x i j axes (dimension_cases v.kind axes fits))

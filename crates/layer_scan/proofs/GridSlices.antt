@@ -1,19 +1,22 @@
 -- The samples of a slice of a grid, row by row.
 use Rattle.std.proofs.Common.{ap, arith, refl, sym, ◌∙◌}
 use Rattle.std.proofs.lemmas.List.{get_or-drop, get_or-take}
-use Rattle.std.specs.Prelude.{List, [], ◌∷◌, drop, int_le, length, nat_lt, slice_index, slice_index_or, slice_range, take, true}
+use Rattle.std.specs.Prelude.{Bool, List, [], ◌∷◌, drop, int_le, length, nat_lt, slice_index, slice_index_or, slice_range, take, true}
 use Rattle.std.specs.Prelude.{ℕ, ℤ, pos, ◌&&◌, ◌*◌, ◌+◌, ◌-◌, ◌<◌, ◌≤◌, ◌≡◌}
 use Rattle.lists.proofs.Tests.{next_below, of_lt}
-use Rattle.iso_model.specs.declared.Kind.{Kind}
-use Rattle.iso_model.specs.declared.Kind.TheVariants.{Cube, Simplex, Pyramid}
 use Rattle.iso_model.specs.Cells.{HasDimension}
-use Rattle.iso_model.specs.Values.{Volume, product, sample_number}
+use Rattle.iso_model.specs.Dimensions.{IsDimension}
+use Rattle.iso_model.specs.Values.{IsRegularVolume, Volume, product, sample_at, sample_number}
+use Rattle.iso_model.proofs.DimensionLaws.{dimension_cases}
+use Rattle.bit_rows.specs.Rows.{row_bit}
+use Rattle.bit_rows.specs.SampleRows.{sample_passes}
 use Rattle.grid_rows.specs.declared.grids.GridRows.{GridRows}
 use Rattle.grid_rows.specs.declared.grids.MiddleAxis.{MiddleAxis}
 use Rattle.grid_rows.specs.declared.planes.BitPlane.{BitPlane}
+use Rattle.grid_rows.specs.Planes.{bit_row}
 use Rattle.grid_rows.specs.RowNumbers.{sample_row, sample_rows}
 use Rattle.layer_scan.specs.GridPlanes.{AreRowsOf, HasSignsOfSlice, after_first, slice_of}
-use Rattle.layer_scan.specs.SlicePlanes.{samples_of}
+use Rattle.layer_scan.specs.SlicePlanes.{AreSampleBits, samples_of}
 use Rattle.layer_scan.proofs.SliceRows.{long_range, row_inside}
 
 -- ---- an element of a part of a list
@@ -91,14 +94,16 @@ all_slices rows (a ∷ b ∷ c ∷ d ∷ []) few most is =
     turned ∙ sym (all_in rows b c a d (ap (λ (m : MiddleAxis). m.samples) is.second) (ap (λ (m : MiddleAxis). m.samples) is.third) is.first)
 all_slices rows (a ∷ b ∷ c ∷ d ∷ e ∷ more) few most is = absurd (omega (arith, most))
 
-pub axes_within : (kind : Kind) (d : ℕ) → HasDimension kind d → (2 ≤ d) × (d ≤ 4)
-axes_within Cube d is = is
-axes_within Simplex d is = is
-axes_within Pyramid d is = (omega (arith, is), omega (arith, is))
+pub axes_between : (d : ℕ) → IsDimension d → (2 ≤ d) × (d ≤ 4)
+axes_between d is = (omega (arith, is), omega (arith, is))
 
-pub signs_of_slice : (v : Volume) (rows : GridRows) (s : ℕ) (plane : BitPlane) → HasSignsOfSlice v rows s plane
-signs_of_slice v rows s plane regular is inside signs i j x first second lt =
-    let axes = axes_within v.kind (length v.sizes) regular.fits in
+-- what a plane tells of the samples of slice s, row by row, it tells of the samples of the grid
+pub told_of_slice : (v : Volume) (rows : GridRows) (s : ℕ) (passes : ℤ → Bool) (plane : BitPlane) → IsRegularVolume v → AreRowsOf v.sizes rows
+    → s < slice_index v.sizes (length v.sizes - 1) → AreSampleBits rows (sample_passes passes) (slice_of rows v.samples s) plane
+    → (i j x : ℕ) → i < rows.second.samples → j < rows.third.samples → x < rows.length
+    → row_bit (bit_row plane (sample_row rows i j)) x ≡ passes (sample_at v.sizes v.samples (x ∷ after_first (length v.sizes) i j s))
+told_of_slice v rows s passes plane regular is inside bits i j x first second lt =
+    let axes = axes_between (length v.sizes) (dimension_cases v.kind (length v.sizes) regular.fits) in
     let size : ℕ = sample_rows rows * rows.length in
     let slice : List ℤ = slice_of rows v.samples s in
     let n : ℕ = sample_row rows i j in
@@ -110,7 +115,34 @@ signs_of_slice v rows s plane regular is inside signs i j x first second lt =
     let within = row_inside n rows.length (sample_rows rows) (length slice) row long in
     let count : length (samples_of rows slice n) ≡ rows.length = long_range slice (n * rows.length) rows.length within in
     let there : nat_lt x (length (samples_of rows slice n)) ≡ true = of_lt x (length (samples_of rows slice n)) (omega (arith, lt, count)) in
-    signs n row x
-    ∙ ap (λ t. t && int_le v.iso (slice_index_or (samples_of rows slice n) x (pos 0))) there
-    ∙ ap (int_le v.iso) (sample_in_row rows v.samples s n x row lt
+    bits n row x
+    ∙ ap (λ t. t && passes (slice_index_or (samples_of rows slice n) x (pos 0))) there
+    ∙ ap passes (sample_in_row rows v.samples s n x row lt
     ∙ ap (λ m. slice_index_or v.samples m (pos 0)) (sym (sample_place rows v.sizes i j s x axes.0 axes.1 is first second)))
+
+pub signs_of_slice : (v : Volume) (rows : GridRows) (s : ℕ) (plane : BitPlane) → HasSignsOfSlice v rows s plane
+signs_of_slice v rows s plane regular is inside signs i j x first second lt =
+    told_of_slice v rows s (int_le v.iso) plane regular is inside signs i j x first second lt
+
+-- the length of a slice
+pub long_slice : (v : Volume) (rows : GridRows) (s : ℕ) → IsRegularVolume v → AreRowsOf v.sizes rows → s < slice_index v.sizes (length v.sizes - 1)
+    → length (slice_of rows v.samples s) ≡ sample_rows rows * rows.length
+long_slice v rows s regular is inside =
+    let axes = axes_between (length v.sizes) (dimension_cases v.kind (length v.sizes) regular.fits) in
+    let size : ℕ = sample_rows rows * rows.length in
+    let whole : length v.samples ≡ slice_index v.sizes (length v.sizes - 1) * size =
+    regular.all_there ∙ all_slices rows v.sizes axes.0 axes.1 is in
+    long_range v.samples (s * size) size (row_inside s size (slice_index v.sizes (length v.sizes - 1)) (length v.samples) inside whole)
+
+-- the sample at x of a row of a slice
+pub sample_of_slice : (v : Volume) (rows : GridRows) (s i j x : ℕ) → HasDimension v.kind (length v.sizes) → AreRowsOf v.sizes rows
+    → i < rows.second.samples → j < rows.third.samples → x < rows.length
+    → slice_index_or (slice_of rows v.samples s) (sample_row rows i j * rows.length + x) (pos 0)
+    ≡ sample_at v.sizes v.samples (x ∷ after_first (length v.sizes) i j s)
+sample_of_slice v rows s i j x fits is first second lt =
+    let axes = axes_between (length v.sizes) (dimension_cases v.kind (length v.sizes) fits) in
+    let row : sample_row rows i j < sample_rows rows = next_below i rows.second.samples j rows.third.samples first second in
+    let within = row_inside (sample_row rows i j) rows.length (sample_rows rows) (sample_rows rows * rows.length) row refl in
+    part_at v.samples (s * (sample_rows rows * rows.length)) (sample_rows rows * rows.length) (sample_row rows i j * rows.length + x)
+    (omega (arith, within, lt))
+    ∙ ap (λ m. slice_index_or v.samples m (pos 0)) (sym (sample_place rows v.sizes i j s x axes.0 axes.1 is first second))

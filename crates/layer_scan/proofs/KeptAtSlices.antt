@@ -6,7 +6,9 @@ use Rattle.std.specs.Prelude.{Bool, List, [], ◌∷◌, false, length, nat_lt, 
 use Rattle.std.specs.Prelude.{ℕ, ◌&&◌, ◌||◌, ◌*◌, ◌+◌, ◌-◌, ◌/◌, ◌<◌, ◌≤◌, ◌≡◌}
 use Rattle.lists.proofs.Tests.{next_below, or_false}
 use Rattle.iso_model.specs.Values.{Volume}
+use Rattle.iso_model.proofs.DimensionLaws.{dimension_cases}
 use Rattle.bit_rows.specs.Rows.{row_bit}
+use Rattle.bit_rows.proofs.SetBelow.{not_below}
 use Rattle.grid_rows.specs.declared.grids.GridRows.{GridRows}
 use Rattle.grid_rows.specs.declared.planes.BitPlane.{BitPlane}
 use Rattle.grid_rows.specs.Planes.{bit_row}
@@ -15,8 +17,8 @@ use Rattle.edge_middles.specs.WhatIsThere.{has_cube_at, is_kept_at}
 use Rattle.layer_scan.specs.GridPlanes.{IsKeptAtLast, IsKeptAtSlice, TellsBelow, after_first}
 use Rattle.layer_scan.specs.ScanPlanes.{HasClearBorder}
 use Rattle.layer_scan.proofs.GridCubes.{told_around}
-use Rattle.layer_scan.proofs.GridKept.{around_at, dimension, level, none_past_second, none_past_third, not_below}
-use Rattle.layer_scan.proofs.GridSlices.{axes_within}
+use Rattle.layer_scan.proofs.GridKept.{around_at, level, none_past_second, none_past_third}
+use Rattle.layer_scan.proofs.GridSlices.{axes_between}
 
 slice_level : (v : Volume) (axes s x p q : ℕ)
     → level v axes (4 * s) x p q ≡ (is_kept_at v (x ∷ after_first axes p q (s - 1)) || is_kept_at v (x ∷ after_first axes p q s))
@@ -64,7 +66,7 @@ level_past v axes s x p q none =
 pub kept_at_slice : (v : Volume) (rows : GridRows) (s : ℕ) (below above plane : BitPlane) → IsKeptAtSlice v rows s below above plane
 kept_at_slice v rows s below above plane fits is under over either i j x h k =
     let axes : ℕ = length v.sizes in
-    let within = axes_within v.kind axes fits in
+    let within = axes_between axes (dimension_cases v.kind axes fits) in
     told_around rows plane x (level v axes (4 * s) x) i j (record {
       clear = λ n low none y. either n low y ∙ ap (λ t. t || row_bit (bit_row above n) y) (below_clear v rows s below under n low none y)
           ∙ over.clear n low none y;
@@ -75,7 +77,7 @@ kept_at_slice v rows s below above plane fits is under over either i j x h k =
           ∙ below_or v rows s below p q x under low near ∙ sym (slice_level v axes s x p q);
       none_first = λ p q low high. level_past v axes s x p q (λ t. none_past_second rows v.sizes p q t x within.0 within.1 is low high);
       none_last = λ p q low high. level_past v axes s x p q (λ t. none_past_third rows v.sizes p q t x within.0 within.1 is low high);
-    }) h k ∙ sym (around_at v (4 * s) x i j axes (dimension axes within))
+    }) h k ∙ sym (around_at v (4 * s) x i j axes (dimension_cases v.kind axes fits))
 
 -- ---- the last slice
 
@@ -97,7 +99,7 @@ none_past_last (a ∷ b ∷ c ∷ d ∷ e ∷ more) p q s x few most last = absu
 pub kept_at_last : (v : Volume) (rows : GridRows) (s : ℕ) (below : BitPlane) → IsKeptAtLast v rows s below
 kept_at_last v rows s below fits is end under i j x h k =
     let axes : ℕ = length v.sizes in
-    let within = axes_within v.kind axes fits in
+    let within = axes_between axes (dimension_cases v.kind axes fits) in
     told_around rows below x (level v axes (4 * s) x) i j (record {
       clear = below_clear v rows s below under;
       cubes = λ p q low near.
@@ -107,4 +109,4 @@ kept_at_last v rows s below fits is end under i j x h k =
           sym (or_false bit) ∙ ap (λ t. bit || t) (sym above) ∙ below_or v rows s below p q x under low near ∙ sym (slice_level v axes s x p q);
       none_first = λ p q low high. level_past v axes s x p q (λ t. none_past_second rows v.sizes p q t x within.0 within.1 is low high);
       none_last = λ p q low high. level_past v axes s x p q (λ t. none_past_third rows v.sizes p q t x within.0 within.1 is low high);
-    }) h k ∙ sym (around_at v (4 * s) x i j axes (dimension axes within))
+    }) h k ∙ sym (around_at v (4 * s) x i j axes (dimension_cases v.kind axes fits))

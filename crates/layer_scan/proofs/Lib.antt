@@ -1,9 +1,8 @@
 pub mod WordTests
-pub mod CornerRows
+pub mod CornerBits
 pub mod PlaneRowSteps
 pub mod EdgeWordSteps
 pub mod EdgePlaneSteps
-pub mod FlagSteps
 pub mod CentreSums
 pub mod SliceRows
 pub mod ScanRoom
@@ -13,3 +12,12 @@ pub mod GridSlices
 pub mod GridCubes
 pub mod GridKept
 pub mod KeptAtSlices
+pub mod RowsInOrder
+pub mod EdgesThere
+pub mod EdgeNumbers
+pub mod HeightsMet
+pub mod CentresThere
+pub mod KeptCubes
+pub mod StatesTold
+pub mod EdgesTold
+pub mod OneSign

@@ -1,5 +1,5 @@
 -- What the planes of a scan tell of a grid.
-use Rattle.std.specs.Prelude.{ℕ, ◌+◌, ◌*◌, ◌-◌, ◌<◌, ◌≤◌, ◌≡◌, List, [], ◌∷◌, ◌++◌, ℤ, length, map, slice_index, slice_range, take}
+use Rattle.std.specs.Prelude.{ℕ, ◌+◌, ◌*◌, ◌-◌, ◌/◌, ◌%◌, ◌<◌, ◌≤◌, ◌≡◌, Bool, false, List, [], ◌∷◌, ◌++◌, ℤ, length, map, slice_index, slice_range, take}
 use Rattle.iso_model.specs.Cells.{HasDimension}
 use Rattle.iso_model.specs.Values.{IsRegularVolume, Volume}
 use Rattle.bit_rows.specs.Rows.{row_bit}
@@ -8,9 +8,11 @@ use Rattle.grid_rows.specs.declared.grids.GridRows.{GridRows}
 use Rattle.grid_rows.specs.declared.planes.BitPlane.{BitPlane}
 use Rattle.grid_rows.specs.MiddleAxes.{axis_of, edge_span}
 use Rattle.grid_rows.specs.Planes.{bit_row}
-use Rattle.grid_rows.specs.RowNumbers.{bordered, bordered_rows, cubes_around, sample_row, sample_rows}
+use Rattle.grid_rows.specs.RowNumbers.{bordered, bordered_rows, cube_rows, cubes_around, sample_row, sample_rows}
+use Rattle.edge_middles.specs.PlainCubes.{HasOneSign}
 use Rattle.edge_middles.specs.WhatIsThere.{is_above_at, is_kept_around, is_kept_at}
-use Rattle.layer_scan.specs.CubePlanes.{AreEither}
+use Rattle.layer_scan.specs.Corners.{mixed_corners}
+use Rattle.layer_scan.specs.CubePlanes.{AreEither, corner_rows}
 use Rattle.layer_scan.specs.RowsOfEdges.{around}
 use Rattle.layer_scan.specs.ScanPlanes.{HasClearBorder, HasNoBit}
 use Rattle.layer_scan.specs.SlicePlanes.{AreSampleBits}
@@ -68,3 +70,12 @@ abbrev pub IsKeptAtLast : Volume → GridRows → ℕ → BitPlane → Type 0
 IsKeptAtLast v rows s below = HasDimension v.kind (length v.sizes) → AreRowsOf v.sizes rows → s + 1 ≡ slice_index v.sizes (length v.sizes - 1)
     → TellsBelow v rows s below → (i j x : ℕ) → i < edge_span rows.second → j < edge_span rows.third
     → around (map (bit_row below) (cubes_around rows i j)) x ≡ is_kept_around v (after_first (length v.sizes) (2 * i) (2 * j) (4 * s)) x
+
+-- ---- cubes of one sign
+
+-- a cube of a layer whose corners do not differ in the planes of the signs of its two slices has corners of one sign
+abbrev pub IsPlainUnlessMixed : Volume → GridRows → ℕ → BitPlane → BitPlane → Type 0
+IsPlainUnlessMixed v rows s lower upper = HasDimension v.kind (length v.sizes) → AreRowsOf v.sizes rows → TellsSigns v rows s lower
+    → TellsSigns v rows (s + 1) upper → (c x : ℕ) → c < cube_rows rows → x + 1 < rows.length
+    → mixed_corners lower upper (corner_rows rows c) x ≡ false
+    → (above : Bool) × HasOneSign v (x ∷ after_first (length v.sizes) (c % rows.second.cubes) (c / rows.second.cubes) s) above

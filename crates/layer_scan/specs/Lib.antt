@@ -10,3 +10,5 @@ pub mod FlaggedCubes
 pub mod ScanPlanes
 pub mod ScanEdges
 pub mod GridPlanes
+pub mod GridStates
+pub mod GridEdges

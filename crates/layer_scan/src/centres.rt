@@ -11,8 +11,7 @@ ghost use Rattle.layer_scan.specs.Centres.{AreInside, AreSmall, HoldsCube, IsSou
 ghost use Rattle.layer_scan.specs.Centres.{centre_at, four_samples, is_above_in};
 ghost use Rattle.layer_scan.specs.CubePlanes.{AreCubeBits, HasRows, KeepsBorder};
 
-use crate::flags::with_flag;
-use bit_rows::bit;
+use bit_rows::{bit, with_test};
 use grid_rows::{BitPlane, GridRows};
 
 // Writes the signs of the centres of the kept cubes of a layer, in three dimensions, given the samples of the slices on
@@ -85,7 +84,7 @@ impl CentreRow<'_> {
     {
         let mut word = 0;
         for place in 0..64 {
-            word = with_flag(word, place, self.is_kept_above(kept, w, place));
+            word = with_test(word, place as usize, self.is_kept_above(kept, w, place));
         }
         word
     }

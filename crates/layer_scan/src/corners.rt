@@ -8,12 +8,12 @@ ghost use Rattle.layer_scan.specs.Corners.{mixed_corners, some_corner, some_of_f
 use bit_rows::down;
 use grid_rows::{BitPlane, CubeRow};
 
-// The rows of samples at the corners of a row of cubes: the signs, or what tells whether they are not blank.
+/// The rows of samples at the corners of a row of cubes: the signs, or what tells whether they are not blank.
 #[derive(Clone, Copy)]
-pub(crate) struct CornerRows<'a> {
-    pub(crate) lower: &'a BitPlane,
-    pub(crate) upper: &'a BitPlane,
-    pub(crate) row: CubeRow,
+pub struct CornerRows<'a> {
+    pub lower: &'a BitPlane,
+    pub upper: &'a BitPlane,
+    pub row: CubeRow,
 }
 
 impl CornerRows<'_> {
@@ -45,8 +45,8 @@ impl CornerRows<'_> {
         some
     }
 
-    // Bit x: the corners of the cube at x have both kinds of bits.
-    pub(crate) fn mixed(&self, w: usize) -> u64
+    /// Bit x: the corners of the cube at x have both kinds of bits.
+    pub fn mixed(&self, w: usize) -> u64
         requires corners { HaveCorners self.now.lower.now self.now.upper.now self.now.row.corners }
         requires word { w < self.now.lower.now.words }
         ensures { IsWordOf (mixed_corners self.now.lower.now self.now.upper.now self.now.row.corners) w result }

@@ -1,10 +1,15 @@
 //! The edges of a grid, numbered as a scan meets them.
 
-ghost use Rattle.std.specs.Prelude.{◌≡◌, ◌≢◌, ◌*◌, ◌+◌, ◌<◌, ◌≤◌, ◌^◌, ◌-◌, IfOk, length};
+ghost use Rattle.std.specs.Prelude.{◌≡◌, ◌≢◌, ◌*◌, ◌+◌, ◌<◌, ◌≤◌, ◌^◌, ◌-◌, ℕ, IfOk, length};
+ghost use Rattle.iso_model.specs.Cells.{HasDimension};
+ghost use Rattle.iso_model.specs.Values.{Volume};
 ghost use Rattle.iso_model.specs.declared.Kind.TheVariants.{Pyramid};
 ghost use Rattle.grid_rows.specs.RowNumbers.{bordered_rows, cube_rows, edge_rows, sample_rows};
 ghost use Rattle.layer_scan.specs.Centres.{AreSmall};
 ghost use Rattle.layer_scan.specs.CubePlanes.{HasRows};
+ghost use Rattle.layer_scan.specs.GridEdges.{HasMet, TellsEdges, TellsLayer};
+ghost use Rattle.layer_scan.specs.GridPlanes.{slice_of};
+ghost use Rattle.layer_scan.specs.GridStates.{StandsAt, StandsBetween, slice_count};
 ghost use Rattle.layer_scan.specs.PlanesOfCentres.{HasThreeAxes};
 ghost use Rattle.layer_scan.specs.RowsOfEdges.{HasEdgeRows};
 ghost use Rattle.layer_scan.specs.ScanEdges.{HasEdges, HasNoNumbers, NumbersPyramids, NumbersSlice, NumbersUpright};
@@ -47,6 +52,7 @@ impl LayerEdges {
         requires three { kind ≡ Pyramid → HasThreeAxes rows.now }
         ensures kind { IfOk result (λ edges. edges.kind ≡ kind) }
         ensures none { IfOk result (HasNoNumbers rows.now) }
+        ensures met { IfOk result (λ edges. (v : Volume) → HasDimension v.kind (length v.sizes) → HasMet v 0 edges) }
     {
         Ok(LayerEdges {
             kind,
@@ -67,6 +73,9 @@ impl LayerEdges {
         requires few { self.old.count ≤ 2 ^ 31 }
         ensures edges { HasEdges planes.now.rows self.new }
         ensures numbers { NumbersSlice planes.now planes.now.around self.old self.new }
+        ensures told { (v : Volume) (s : ℕ) → self.old.kind ≡ v.kind → StandsBetween v s planes.now
+            → HasMet v (4 * s) self.old
+            → TellsEdges v planes.now.rows (4 * s) self.new.lower × HasMet v (4 * s + 1) self.new }
     {
         self.number_slice(planes, &planes.around);
     }
@@ -78,6 +87,9 @@ impl LayerEdges {
         requires few { self.old.count ≤ 2 ^ 31 }
         ensures edges { HasEdges planes.now.rows self.new }
         ensures numbers { NumbersSlice planes.now planes.now.kept_below self.old self.new }
+        ensures told { (v : Volume) (s : ℕ) → self.old.kind ≡ v.kind → StandsAt v s planes.now → s + 1 ≡ slice_count v
+            → HasMet v (4 * s) self.old
+            → TellsEdges v planes.now.rows (4 * s) self.new.lower × HasMet v (4 * s + 1) self.new }
     {
         self.number_slice(planes, &planes.kept_below);
     }
@@ -104,6 +116,27 @@ impl LayerEdges {
 
     /// Numbers the edges of the layer between the two slices, given their samples, which are at most 2^32 from 0.
     pub fn number_layer(&mut self, planes: &LayerPlanes, lower: &[i64], upper: &[i64])
+        requires planes { HasPlanes planes.now }
+        requires edges { HasEdges planes.now.rows self.old }
+        requires lower { length lower.now ≡ sample_rows planes.now.rows * planes.now.rows.length }
+        requires upper { length upper.now ≡ sample_rows planes.now.rows * planes.now.rows.length }
+        requires small { AreSmall lower.now }
+        requires small_above { AreSmall upper.now }
+        requires few { self.old.count ≤ 2 ^ 31 }
+        ensures edges { HasEdges planes.now.rows self.new }
+        ensures plain { self.old.kind ≢ Pyramid → NumbersUpright planes.now self.old self.new }
+        ensures pyramids { self.old.kind ≡ Pyramid →
+            NumbersPyramids planes.now lower.now upper.now self.old self.new }
+        ensures told { (v : Volume) (s : ℕ) → self.old.kind ≡ v.kind → StandsBetween v s planes.now
+            → lower.now ≡ slice_of planes.now.rows v.samples s → upper.now ≡ slice_of planes.now.rows v.samples (s + 1)
+            → HasMet v (4 * s + 1) self.old
+            → TellsLayer v planes.now.rows s self.new × HasMet v (4 * (s + 1)) self.new }
+    {
+        self.number_by_kind(planes, lower, upper);
+    }
+
+    // Numbers the edges of the layer, of pyramids with those to the centres.
+    fn number_by_kind(&mut self, planes: &LayerPlanes, lower: &[i64], upper: &[i64])
         requires planes { HasPlanes planes.now }
         requires edges { HasEdges planes.now.rows self.old }
         requires lower { length lower.now ≡ sample_rows planes.now.rows * planes.now.rows.length }

@@ -1,12 +1,13 @@
 //! Kept cubes that are given by flags.
 
-ghost use Rattle.std.specs.Prelude.{◌≡◌, ◌+◌, ◌-◌, ◌*◌, ◌<◌, ◌≤◌, ◌^◌, ◌==◌, ◌&&◌, ◌||◌, ℕ, length};
+ghost use Rattle.std.specs.Prelude.{◌≡◌, ◌+◌, ◌-◌, ◌*◌, ◌<◌, ◌≤◌, ◌^◌, ℕ, length};
 ghost use Rattle.lists.specs.Bits.{is_set};
 ghost use Rattle.bit_rows.specs.Rows.{IsRowOf, word_count};
 ghost use Rattle.grid_rows.specs.RowNumbers.{bordered_rows, cube_rows};
 ghost use Rattle.layer_scan.specs.CubePlanes.{AreCubeBits, HasRows, KeepsBorder};
 ghost use Rattle.layer_scan.specs.FlaggedCubes.{flag_at, is_flagged};
 
+use bit_rows::with_test;
 use grid_rows::{BitPlane, GridRows};
 
 // Writes the kept cubes of a layer from flags, one for each cube, in the order of cube numbers.
@@ -48,7 +49,7 @@ fn flag_word(flags: &[bool], first: usize) -> u64
 {
     let mut word = 0;
     for place in 0..64 {
-        word = with_flag(word, place, is_flagged(flags, first + place as usize));
+        word = with_test(word, place, is_flagged(flags, first + place));
     }
     word
 }
@@ -58,12 +59,4 @@ fn is_flagged(flags: &[bool], x: usize) -> bool
     ensures { result ≡ is_flagged flags.now x }
 {
     x < flags.len() && flags[x]
-}
-
-// A word with the bit at this place set besides, where the test holds.
-pub(crate) fn with_flag(word: u64, place: u32, test: bool) -> u64
-    requires { place < 64 }
-    ensures { (k : ℕ) → k < 64 → is_set result k ≡ (is_set word k || (k == place && test)) }
-{
-    word | u64::from(test) << place
 }

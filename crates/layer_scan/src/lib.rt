@@ -20,6 +20,7 @@ mod rows;
 mod scan;
 mod slices;
 
+pub use corners::CornerRows;
 pub use edges::LayerEdges;
 pub use law::scan_law;
 pub use scan::LayerPlanes;

@@ -1,10 +1,14 @@
 //! What a scan from slice to slice keeps of the slices and of the cubes between them.
 
-ghost use Rattle.std.specs.Prelude.{◌≡◌, ◌*◌, ◌-◌, ◌≤◌, ◌^◌, IfOk, length, unsigned_abs};
+ghost use Rattle.std.specs.Prelude.{◌≡◌, ◌*◌, ◌+◌, ◌-◌, ◌≤◌, ◌^◌, ℕ, IfOk, length, unsigned_abs};
+ghost use Rattle.iso_model.specs.Values.{Volume};
 ghost use Rattle.bit_rows.specs.SampleRows.{is_above, is_clear_at};
 ghost use Rattle.grid_rows.specs.RowNumbers.{bordered_rows, cube_rows, sample_rows};
 ghost use Rattle.layer_scan.specs.CubePlanes.{AreCubeBits, AreEither, every_at};
 ghost use Rattle.layer_scan.specs.FlaggedCubes.{flag_at};
+ghost use Rattle.layer_scan.specs.GridPlanes.{TellsKept};
+ghost use Rattle.layer_scan.specs.GridStates.{HasSignsBelow, StandsAt, StandsBetween};
+ghost use Rattle.layer_scan.specs.GridStates.{TakesFlags, TakesLower, TakesUpper};
 ghost use Rattle.layer_scan.specs.ScanPlanes.{HasFewSamples, HasPlanes, IsMovedOn, IsNewPlane};
 ghost use Rattle.layer_scan.specs.ScanPlanes.{IsNewScan, IsSameScan};
 ghost use Rattle.layer_scan.specs.SlicePlanes.{AreSampleBits};
@@ -78,6 +82,7 @@ impl LayerPlanes {
           lower_signs = self.new.lower_signs;
           lower_clear = self.new.lower_clear;
         } }
+        ensures told { (v : Volume) (s : ℕ) → TakesLower v s slice.now self.old → StandsAt v s self.new }
     {
         write_signs(&mut self.lower_signs, &self.rows, slice, self.iso);
         write_clear(&mut self.lower_clear, &self.rows, slice, self.blank);
@@ -91,6 +96,8 @@ impl LayerPlanes {
         ensures same { IsSameScan self.old self.new }
         ensures kept_below { AreCubeBits self.old.rows (flag_at self.old.rows flags.now) self.new.kept_below }
         ensures rest { self.new ≡ record self.old { kept_below = self.new.kept_below } }
+        ensures told { (v : Volume) (s : ℕ) → TakesFlags v s flags.now self.old
+            → TellsKept v self.old.rows s self.new.kept_below }
     {
         write_flags(&mut self.kept_below, &self.rows, flags);
     }
@@ -112,6 +119,7 @@ impl LayerPlanes {
           kept = self.new.kept;
           around = self.new.around;
         } }
+        ensures told { (v : Volume) (s : ℕ) → TakesUpper v s upper.now self.old → StandsBetween v s self.new }
     {
         write_signs(&mut self.upper_signs, &self.rows, upper, self.iso);
         write_clear(&mut self.upper_clear, &self.rows, upper, self.blank);
@@ -130,6 +138,8 @@ impl LayerPlanes {
         ensures planes { HasPlanes self.new }
         ensures same { IsSameScan self.old self.new }
         ensures moved { IsMovedOn self.old self.new }
+        ensures told { (v : Volume) (s : ℕ) → StandsBetween v s self.old
+            → StandsAt v (s + 1) self.new × HasSignsBelow v (s + 1) self.new }
     {
         swap(&mut self.below_signs, &mut self.lower_signs);
         swap(&mut self.lower_signs, &mut self.upper_signs);

@@ -2,7 +2,7 @@ use Rattle.std.proofs.Common.{arith}
 use Rattle.std.specs.Prelude.{List, length, ℕ, ◌≡◌}
 use Rattle.grid_rows.specs.declared.planes.BitPlane.{BitPlane}
 use Rattle.layer_scan.specs.Corners.{every_corner}
-use Rattle.layer_scan.proofs.CornerRows.{every_past}
+use Rattle.layer_scan.proofs.CornerBits.{every_past}
 use Rattle.layer_scan.proofs.WordTests.{row_from_words}
 use Rattle.layer_scan.proofs.kept.write_kept_row.Goals as goal
 

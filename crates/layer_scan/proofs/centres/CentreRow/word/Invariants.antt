@@ -1,7 +1,7 @@
 use Rattle.std.specs.Prelude.{◌&&◌, ◌+◌, ◌*◌}
 use Rattle.lists.specs.Bits.{is_set}
 use Rattle.layer_scan.specs.Centres.{is_above_in}
-use Rattle.layer_scan.proofs.FlagSteps.{AreSetBelow}
+use Rattle.bit_rows.proofs.SetBelow.{AreSetBelow}
 use Rattle.layer_scan.proofs.centres.CentreRow.word.Given as goal
 
 abbrev pub invariant-loop-place : goal.invariant-loop-place

@@ -2,7 +2,7 @@ use Rattle.std.proofs.Common.{ap, rules, ◌∙◌, ◌+◌, ◌*◌}
 use Rattle.std.proofs.lemmas.List.{take_all}
 use Rattle.std.specs.Prelude.{List, length, take, ℕ, ◌<◌, ◌≤◌}
 use Rattle.layer_scan.specs.Corners.{all_four, every_corner}
-use Rattle.layer_scan.proofs.CornerRows.{every_more}
+use Rattle.layer_scan.proofs.CornerBits.{every_more}
 use Rattle.layer_scan.proofs.WordTests.{all_bits, and_words}
 use Rattle.layer_scan.proofs.corners.CornerRows.every.Goals as goal
 

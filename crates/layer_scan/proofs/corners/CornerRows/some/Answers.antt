@@ -2,7 +2,7 @@ use Rattle.std.proofs.Common.{ap, rules, ◌∙◌, ◌+◌, ◌*◌}
 use Rattle.std.proofs.lemmas.List.{take_all}
 use Rattle.std.specs.Prelude.{List, length, take, ℕ, ◌<◌, ◌≤◌}
 use Rattle.layer_scan.specs.Corners.{some_of_four, some_corner}
-use Rattle.layer_scan.proofs.CornerRows.{some_more}
+use Rattle.layer_scan.proofs.CornerBits.{some_more}
 use Rattle.layer_scan.proofs.WordTests.{or_words}
 use Rattle.layer_scan.proofs.corners.CornerRows.some.Goals as goal
 

@@ -6,6 +6,7 @@ use Rattle.grid_rows.specs.declared.grids.GridRows.{GridRows}
 use Rattle.grid_rows.specs.RowNumbers.{bordered_rows}
 use Rattle.layer_scan.specs.CubePlanes.{every_at}
 use Rattle.layer_scan.specs.ScanPlanes.{HasBitsBelow, HasClearBorder, HasPlanes}
+use Rattle.layer_scan.proofs.StatesTold.{stands_taken}
 use Rattle.layer_scan.proofs.ScanPlanes.{border_stays, clear_below, cubes_below, either_below, every_below}
 use Rattle.layer_scan.proofs.scan.LayerPlanes.take_upper.Goals as goal
 
@@ -48,3 +49,8 @@ returns-clause-planes c =
       around_within = either_below (bordered_rows rows) last c.args.self.now.kept_below c.write_kept.new.kept c.write_either.new.around
           planes.below_within within c.write_either.ensures.cubes;
     }
+
+pub returns-clause-told : goal.returns-clause-told
+returns-clause-told c = λ v s takes.
+    stands_taken v s c.args.upper.now c.args.self.now c.write_signs.new.signs c.write_clear.new.clear c.write_kept.new.kept c.write_either.new.around takes
+    (returns-clause-planes c) (returns-clause-signs c) c.write_clear.ensures.bits c.write_kept.ensures.cubes c.write_either.ensures.cubes
