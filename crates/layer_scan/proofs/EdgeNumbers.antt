@@ -107,13 +107,16 @@ module _ (v : Volume) (rows : GridRows) (height : ℕ) (fits : HasDimension v.ki
 
   stands_so : (n : ℕ) → n < edge_rows rows
       → sample_rest n ≡ after_first (length v.sizes) (2 * (n % edge_span rows.second)) (2 * (n / edge_span rows.second)) height
-  stands_so n h = let within = axes_between (length v.sizes) (dimension_cases v.kind (length v.sizes) fits) in row_stands rows v.sizes height n within.0 within.1 is h
+  stands_so n h =
+      let within = axes_between (length v.sizes) (dimension_cases v.kind (length v.sizes) fits) in
+      row_stands rows v.sizes height n within.0 within.1 is h
 
   joins : (n : ℕ) → n < edge_rows rows → joins_samples (sample_rest n) ≡ true
   joins n h =
       let within = axes_between (length v.sizes) (dimension_cases v.kind (length v.sizes) fits) in
       ap joins_samples (stands_so n h)
-      ∙ (stands_in_halves (n % edge_span rows.second) (n / edge_span rows.second) height (length v.sizes) (dimension_cases v.kind (length v.sizes) fits)).even even
+      ∙ (stands_in_halves (n % edge_span rows.second) (n / edge_span rows.second) height
+      (length v.sizes) (dimension_cases v.kind (length v.sizes) fits)).even even
 
   long : (n : ℕ) → n < edge_rows rows → suc (length (sample_rest n)) ≡ length v.sizes
   long n h =

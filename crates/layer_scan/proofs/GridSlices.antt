@@ -79,7 +79,7 @@ sample_place rows (a ∷ b ∷ c ∷ d ∷ []) i j s x few most is h k =
 sample_place rows (a ∷ b ∷ c ∷ d ∷ e ∷ more) i j s x few most is h k = absurd (omega (arith, most))
 
 -- a grid has as many samples as its slices
-all_slices : (rows : GridRows) (sizes : List ℕ) → 2 ≤ length sizes → length sizes ≤ 4 → AreRowsOf sizes rows
+pub all_slices : (rows : GridRows) (sizes : List ℕ) → 2 ≤ length sizes → length sizes ≤ 4 → AreRowsOf sizes rows
     → product sizes ≡ slice_index sizes (length sizes - 1) * (sample_rows rows * rows.length)
 all_slices rows [] few most is = absurd (omega (arith, few))
 all_slices rows (a ∷ []) few most is = absurd (omega (arith, few))

@@ -6,7 +6,8 @@ use Rattle.std.proofs.lemmas.Nat.{div-mul-add, mod-mul-add}
 use Rattle.std.proofs.lemmas.Nat.Bits.{bit_at-lt}
 use Rattle.std.specs.Int.{bit_at}
 use Rattle.std.specs.List.{list_all, list_any}
-use Rattle.std.specs.Prelude.{Bool, List, [], ◌∷◌, None, Option, Some, drop, false, length, map, nat_lt, not, slice_index, slice_index_or, suc, take, true, zero, ℕ}
+use Rattle.std.specs.Prelude.{Bool, List, [], ◌∷◌, None, Option, Some, drop, false, length}
+use Rattle.std.specs.Prelude.{map, nat_lt, not, slice_index, slice_index_or, suc, take, true, zero, ℕ}
 use Rattle.std.specs.Prelude.{ℤ, ◌&&◌, ◌||◌, ◌%◌, ◌*◌, ◌+◌, ◌-◌, ◌/◌, ◌<◌, ◌≤◌, ◌≡◌, ◌⊎◌, ◌^◌}
 use Rattle.lists.specs.Members.{In}
 use Rattle.lists.specs.Orders.{numbers}

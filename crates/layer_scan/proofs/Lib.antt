@@ -21,3 +21,8 @@ pub mod KeptCubes
 pub mod StatesTold
 pub mod EdgesTold
 pub mod OneSign
+pub mod CubePlaces
+pub mod CubeRanks
+pub mod RanksWritten
+pub mod CubeEdges
+pub mod SlotsTold

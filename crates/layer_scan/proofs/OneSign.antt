@@ -190,7 +190,8 @@ plain_unless_mixed v rows s lower upper fits is low high c x inside lt plain =
         let axes = axes_between (length v.sizes) (dimension_cases v.kind (length v.sizes) fits) in
         let along = along_axis rows.second.cubes rows.third.cubes c inside in
         one_sign v x (c % rows.second.cubes) (c / rows.second.cubes) s above rows v.sizes axes.0 axes.1 is
-        (λ p q r a b d. sym (corner_signs v rows s x (c % rows.second.cubes) (c / rows.second.cubes) lower low lt along.0 along.1 p q r a b d) ∙ one p q r a b d)
+        (λ p q r a b d. sym (corner_signs v rows s x (c % rows.second.cubes) (c / rows.second.cubes) lower low lt along.0 along.1 p q r a b d)
+        ∙ one p q r a b d)
         (λ p q r a b d. sym (corner_signs v rows (s + 1) x (c % rows.second.cubes) (c / rows.second.cubes) upper high lt along.0 along.1 p q r a b d)
         ∙ two p q r a b d)
 

@@ -12,3 +12,4 @@ pub mod ScanEdges
 pub mod GridPlanes
 pub mod GridStates
 pub mod GridEdges
+pub mod CubeNumbers

@@ -123,8 +123,8 @@ fn is_positive(sum: i64, iso: i64) -> bool
     sum >= 8 * iso
 }
 
-// The sum of the four samples of a cube in one slice.
-fn square_sum(samples: &[i64], near: usize, far: usize) -> i64
+/// The sum of the four samples of a cube in one slice, which are at most 2^32 from 0.
+pub fn square_sum(samples: &[i64], near: usize, far: usize) -> i64
     requires near { near + 1 < length samples.now }
     requires far { far + 1 < length samples.now }
     requires small { AreSmall samples.now }

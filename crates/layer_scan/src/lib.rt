@@ -10,6 +10,7 @@
 mod centre_numbers;
 mod centres;
 mod corners;
+mod cubes;
 mod edges;
 mod flags;
 mod kept;
@@ -20,7 +21,9 @@ mod rows;
 mod scan;
 mod slices;
 
+pub use centres::square_sum;
 pub use corners::CornerRows;
+pub use cubes::{CubeSlots, MOST_PLACES, edge_place};
 pub use edges::LayerEdges;
 pub use law::scan_law;
 pub use scan::LayerPlanes;
