@@ -9,8 +9,6 @@ mod edges;
 mod found;
 mod labels;
 mod nearby;
-#[cfg(test)]
-mod tests;
 mod values;
 
 pub use crossings::{crossing, positive};

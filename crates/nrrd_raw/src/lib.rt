@@ -12,8 +12,6 @@ mod lines;
 mod pieces;
 mod reading;
 mod samples;
-#[cfg(test)]
-mod tests;
 
 pub use faults::GridFault;
 pub use fields::headers::Header;

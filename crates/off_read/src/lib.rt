@@ -9,8 +9,6 @@
 mod faults;
 mod meshes;
 mod reader;
-#[cfg(test)]
-mod tests;
 mod words;
 
 pub use faults::OffFault;

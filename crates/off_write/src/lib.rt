@@ -6,8 +6,6 @@
 mod law;
 mod lines;
 mod page;
-#[cfg(test)]
-mod tests;
 mod write;
 
 pub use law::text_law;

@@ -16,8 +16,6 @@ mod facets;
 mod places;
 mod seams;
 mod table_traces;
-#[cfg(test)]
-mod tests;
 mod walks;
 
 pub use clashes::Clash;

@@ -9,8 +9,6 @@ mod labels;
 mod laws;
 mod ordered;
 mod parts;
-#[cfg(test)]
-mod tests;
 mod verdicts;
 
 pub use certified::{CertifyFault, Checked, certify};

@@ -15,8 +15,6 @@ mod indexed_writing;
 mod laws;
 mod reading;
 mod tables;
-#[cfg(test)]
-mod tests;
 mod writing;
 
 pub use faults::TableFault;

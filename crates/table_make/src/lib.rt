@@ -6,8 +6,6 @@ mod classes;
 mod entries;
 mod generated;
 mod parts;
-#[cfg(test)]
-mod tests;
 
 pub use generated::make;
 pub use parts::make_parts;

@@ -1,14 +1,14 @@
 //! Tables of squares and simplices, and spoiled ones.
 
-use crate::{
-    CertifyFault, Verdict, certify, certify_ordered, certify_parts, check, check_ordered,
-    check_parts,
-};
 use cell_lattice::{CubeCell, SimplexCell};
 use iso_base::{Gate, OpenGate};
 use std::alloc::Global;
 use std::sync::atomic::{AtomicU64, Ordering};
 use std::test::Fail;
+use table_check::{
+    CertifyFault, Verdict, certify, certify_ordered, certify_parts, check, check_ordered,
+    check_parts,
+};
 use table_file::{AnyTable, Kind, decode};
 use worked_tables::{SQUARE, TETRAHEDRON, TRIANGLE};
 

@@ -3,8 +3,8 @@
 ghost use Rattle.std.specs.Prelude.{◌≡◌, None, length, IfOk};
 ghost use Rattle.iso_model.specs.Values.{IsRegularGrid};
 
-use crate::{bipolar, crossing, label_of, positive, value_at};
 use cell_lattice::{CubeCell, PyramidCell};
+use edge_vertex::{bipolar, crossing, label_of, positive, value_at};
 use grid_split::{Complex, Edge};
 use iso_base::{Failed, Shelf};
 use nrrd_raw::{Grid, read_grid};

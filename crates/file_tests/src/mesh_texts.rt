@@ -1,8 +1,8 @@
 //! Texts of meshes, put to a sink with ample room and to one that fails.
 
-use crate::write::{WriteFault, write_mesh};
 use iso_base::MemSink;
 use mesh_laws::Mesh;
+use off_write::{WriteFault, write_mesh};
 use std::alloc::{AllocError, Global};
 use std::test::Fail;
 

@@ -1,7 +1,7 @@
 //! Files that are read, and files that are refused, as the formats say.
 
-use crate::{AnyOff, OffFault, read_off};
 use iso_base::{MemFile, MemShelf, Shelf};
+use off_read::{AnyOff, OffFault, read_off};
 use std::alloc::Global;
 use std::test::Fail;
 

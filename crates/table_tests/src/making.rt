@@ -1,11 +1,11 @@
 //! Tables of single cells.
 
-use crate::{make, make_parts};
 use cell_lattice::{Cell, CubeCell, SimplexCell};
 use iso_base::{Gate, Memory, OpenGate};
 use std::alloc::Global;
 use std::sync::atomic::{AtomicBool, Ordering};
 use table_file::encode;
+use table_make::{make, make_parts};
 use worked_tables::{SQUARE, TETRAHEDRON, TRIANGLE};
 
 /// The bytes of the table of a cell.

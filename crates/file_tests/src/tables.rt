@@ -1,8 +1,8 @@
 //! Tables and spoiled ones.
 
-use crate::{AnyTable, Kind, Table, TableFault, decode, encode, encode2};
 use std::alloc::Global;
 use std::test::Fail;
+use table_file::{AnyTable, Kind, Table, TableFault, decode, encode, encode2};
 use worked_tables::{SQUARE, SQUARE2, TRIANGLE};
 
 /// The last eight bytes of the heads of the seven kinds.

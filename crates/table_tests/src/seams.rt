@@ -2,10 +2,10 @@
 
 ghost use Rattle.std.specs.Prelude.{◌≡◌};
 
-use crate::{Traces, cell_seams};
 use cell_lattice::{Cell, CubeCell, Kind, SimplexCell};
 use face_tallies::{TallyRoom, tally};
 use iso_base::Memory;
+use seam_traces::{Traces, cell_seams};
 use std::alloc::Global;
 use std::test::Fail;
 use table_file::Table;

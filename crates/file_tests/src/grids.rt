@@ -1,7 +1,7 @@
 //! Files, and what they give.
 
-use crate::{Field, Grid, GridFault, Header, SliceReader, read_grid, read_header, read_samples};
 use iso_base::{MemFile, MemShelf, Shelf};
+use nrrd_raw::{Field, Grid, GridFault, Header, SliceReader, read_grid, read_header, read_samples};
 use std::alloc::{AllocError, Global};
 use std::process::Abort;
 use std::test::Fail;

@@ -1,0 +1,5 @@
+//! Tests of the edges of grids. They stand in a crate of their own, so that they are proved over what is proved already.
+#![tactic(auto)]
+
+#[cfg(test)]
+mod edges;
