@@ -4,7 +4,7 @@ use Rattle.std.proofs.Common.{length-append}
 use Rattle.std.specs.Prelude.{All}
 use Rattle.std.proofs.lemmas.List.{drop_at, length-replicate, take_all, take_at}
 use Rattle.nrrd_raw.specs.Shapes.{AreSizes, HasShape, all_sizes}
-use Rattle.nrrd_raw.proofs.Counts.{CountsPlaces, counts}
+use Rattle.nrrd_raw.proofs.SizeProducts.{CountsPlaces, counts}
 
 -- the sizes stand before the ones
 pub all_sizes-shape : (sizes : List ℕ) → length sizes ≤ 4 → HasShape (length sizes) (all_sizes sizes)

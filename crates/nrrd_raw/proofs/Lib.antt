@@ -1,6 +1,6 @@
 pub mod ContentLaws
 pub mod FirstLaws
-pub mod Counts
+pub mod SizeProducts
 pub mod FrontLaws
 pub mod GridLaws
 pub mod JudgeLaws

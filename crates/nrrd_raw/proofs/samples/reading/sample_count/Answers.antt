@@ -2,7 +2,7 @@ use Rattle.std.proofs.Common.{◌≤◌, length, rules, sym, ap, ◌∙◌, subs
 use Rattle.iso_model.specs.Values.{product}
 use Rattle.iso_formats.specs.GridFile.{Header}
 use Rattle.nrrd_raw.specs.Shapes.{AreSizes}
-use Rattle.nrrd_raw.proofs.Counts.{counts}
+use Rattle.nrrd_raw.proofs.SizeProducts.{counts}
 use Rattle.nrrd_raw.proofs.samples.reading.sample_count.Goals as goal
 
 pub overflow_mul-result : goal.overflow_mul-result
