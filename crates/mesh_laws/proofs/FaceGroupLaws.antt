@@ -225,15 +225,6 @@ empty_more old now empty n e none before = (
       ∙ sym (map-range_with_len_more (λ (i : ℕ). []) 0 n n (omega arith)),
 )
 
--- the last group is counted, and the others are left
-pub last_counted : (old new : List (Vec (List ℕ) Global)) (last : Vec (List ℕ) Global) → old ≡ new ++ last ∷ []
-    → sum_by once_count (map (λ v. v.items) old) ≡ sum_by once_count (map (λ v. v.items) new) + once_count last.items
-last_counted old new last e =
-    ap (λ (vs : List (Vec (List ℕ) Global)). sum_by once_count (map (λ v. v.items) vs)) e
-    ∙ ap (sum_by once_count) (map-append (λ (v : Vec (List ℕ) Global). v.items) new (last ∷ []))
-    ∙ sum_by-append once_count (map (λ v. v.items) new) (last.items ∷ [])
-    ∙ ap (λ (m : ℕ). sum_by once_count (map (λ v. v.items) new) + m) (sum_by-cons once_count last.items [] ∙ omega arith)
-
 -- the groups of the faces of some simplices, and then of one more
 pub groups_more : (old new : List (Vec (List ℕ) Global)) (ws : List (List ℕ)) (i : ℕ) (w : List ℕ) → i < length ws → w ≡ slice_index_or ws i w
     → TakeFaces old new (map padded (faces_of w)) → AreGroups old (map padded (all_faces (take i ws)))

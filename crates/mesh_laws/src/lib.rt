@@ -5,8 +5,6 @@ mod face;
 mod free;
 mod mesh;
 mod rounds;
-#[cfg(test)]
-mod tests;
 mod walks;
 
 pub use face::{count_below, face_count, face_sum, is_distinct, order_parity};

@@ -3,8 +3,8 @@
 ghost use Rattle.std.specs.Prelude.{◌<◌};
 ghost use Rattle.iso_model.specs.Splits.{cell_count};
 
-use crate::{Complex, Edge, Ring, Split};
 use cell_lattice::{CubeCell, PyramidCell, SimplexCell};
+use grid_split::{Complex, Edge, Ring, Split};
 use std::process::Abort;
 use std::test::Fail;
 

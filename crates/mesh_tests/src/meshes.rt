@@ -1,6 +1,6 @@
 //! Faces of some triangles, segments and tetrahedra, and walks round vertices.
 
-use crate::{Mesh, face_count, face_sum, free_faces, walk};
+use mesh_laws::{Mesh, face_count, face_sum, free_faces, walk};
 use std::test::Fail;
 
 // Six triangles round vertex 6, and one with a repeated number.
