@@ -5,7 +5,7 @@ pub mod OffSets
 pub mod PulledSame
 pub mod AddedTuples
 pub mod OrderedTuples
-pub mod PulledTuples
+pub mod FoundTuples
 pub mod SideTurnRows
 pub mod AppendedLists
 pub mod Narrow

@@ -13,7 +13,7 @@ use Rattle.iso_model.specs.Turns.{turn, total, signed, minus, dot, HalfSpace, Ha
 use Rattle.iso_model.specs.Hulls.{IsFacet, members}
 use Rattle.small_turn.proofs.TurnExpr as E
 use Rattle.small_turn.proofs.Planes.{length-minus}
-use Rattle.small_turn.proofs.PointLaws.{get_or-minus}
+use Rattle.small_turn.proofs.PointSums.{get_or-minus}
 use Rattle.cell_lattice.specs.Agreement.{agree_on}
 use Rattle.cube_moves.proofs.OrderChecks.{axis-below, back}
 use Rattle.cube_moves.proofs.InverseMoves.{order_turns_back}

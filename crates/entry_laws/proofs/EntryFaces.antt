@@ -13,7 +13,7 @@ use Rattle.iso_model.specs.Faces.{face_without, face_count, face_sum}
 use Rattle.iso_model.specs.Acceptance.{is_face_right, rule_faces}
 use Rattle.mesh_laws.proofs.FaceSigns.{Each-sorted, from_Each-sorted, Part, rest, after, has_signed}
 use Rattle.mesh_laws.proofs.SignedFaces.{face_count_is, face_sum_is}
-use Rattle.entry_laws.proofs.Tests.{all_each, each_from_all, from_In-filter, some_member, no_member, only_member}
+use Rattle.entry_laws.proofs.KeptMembers.{all_each, each_from_all, from_In-filter, some_member, no_member, only_member}
 use Rattle.entry_laws.proofs.TupleLaws.{facet_found}
 use Rattle.lists.specs.Members.{In, Each, Distinct}
 use Rattle.lists.proofs.Tests.{equal_of}

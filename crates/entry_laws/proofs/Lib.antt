@@ -1,4 +1,4 @@
-pub mod Tests
+pub mod KeptMembers
 pub mod TupleLaws
 pub mod EntryFaces
 pub mod FacetChoices

@@ -11,7 +11,7 @@ use Rattle.iso_model.specs.Bipolar.{is_bipolar_in}
 use Rattle.iso_model.specs.Tables.{Table, IsTable, entry_of}
 use Rattle.iso_model.specs.Acceptance.{others_at, goes_on, leads, is_path, rule_path, IsAccepted}
 use Rattle.cell_lattice.specs.CellLemmas.{two_facets}
-use Rattle.entry_laws.proofs.Tests.{all_each, In-filter, from_In-filter}
+use Rattle.entry_laws.proofs.KeptMembers.{all_each, In-filter, from_In-filter}
 use Rattle.entry_laws.proofs.TupleLaws.{facet_found}
 use Rattle.entry_laws.proofs.LabelLaws.{LabelLaws, label_laws}
 use Rattle.entry_laws.proofs.OrderMembers.{order_inside, order_whole}

@@ -17,7 +17,7 @@ use Rattle.mesh_laws.proofs.FaceSigns.{has_signed}
 use Rattle.mesh_laws.proofs.FaceOf.{face_place}
 use Rattle.mesh_laws.proofs.FaceLists.{sorted_ascends, face_ascends, length_face}
 use Rattle.mesh_laws.proofs.SignedFaces.{face_count_is, face_sum_is, count_parity}
-use Rattle.entry_laws.proofs.Tests.{all_each}
+use Rattle.entry_laws.proofs.KeptMembers.{all_each}
 use Rattle.entry_laws.proofs.TupleLaws.{tuple_of}
 use Rattle.entry_laws.proofs.FacetChoices.{choice_of_facet}
 use Rattle.lists.specs.Members.{In, Each, Distinct, Ascends}

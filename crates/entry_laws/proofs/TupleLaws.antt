@@ -9,7 +9,7 @@ use Rattle.iso_model.specs.Bipolar.{is_bipolar_in}
 use Rattle.iso_model.specs.Tables.{Table, IsTable, IsTuple, IsEntry, entry_of}
 use Rattle.iso_model.specs.Acceptance.{is_sound_tuple, rule_edges, rule_inside}
 use Rattle.iso_model.proofs.DimensionLaws.{dimension_cases}
-use Rattle.entry_laws.proofs.Tests.{all_each, all_from_each, each_from_all, In-filter, some_member}
+use Rattle.entry_laws.proofs.KeptMembers.{all_each, all_from_each, each_from_all, In-filter, some_member}
 use Rattle.lists.specs.Members.{In, Each, Distinct}
 use Rattle.lists.proofs.Tests.{equal_of}
 use Rattle.lists.proofs.Contained.{each-from_All}

@@ -1,6 +1,6 @@
 pub mod DistinctSets
 pub mod SetNumbers
-pub mod PartLaws
+pub mod AddedParts
 pub mod TupleFaces
 pub mod TallyLaws
 pub mod FaceRule

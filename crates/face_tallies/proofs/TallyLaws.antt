@@ -9,7 +9,7 @@ use Rattle.iso_model.specs.Faces.{face_count, face_sum}
 use Rattle.face_tallies.specs.declared.faces.FaceTally.{FaceTally}
 use Rattle.face_tallies.specs.Tallies.{IsFace, IsTallyOf, AreTallies}
 use Rattle.face_tallies.specs.Parts.{all_parts, count_at, sum_at, IsWeighed, AddsParts}
-use Rattle.face_tallies.proofs.PartLaws.{count_of, sum_of, AscendsBySets, adds_permutation}
+use Rattle.face_tallies.proofs.AddedParts.{count_of, sum_of, AscendsBySets, adds_permutation}
 use Rattle.face_tallies.proofs.TupleFaces.{all_count, all_sum, counted_part, part_face}
 use Rattle.lists.specs.Bits.{set_number}
 use Rattle.lists.specs.Members.{In, IsStrict, AscendsBy}

@@ -14,7 +14,7 @@ use Rattle.mesh_laws.proofs.FaceLists.{ascends_by_steps, face_ascends, length_fa
 use Rattle.face_tallies.specs.declared.faces.FaceTally.{FaceTally}
 use Rattle.face_tallies.specs.Tallies.{IsFace}
 use Rattle.face_tallies.specs.Parts.{part_at, parts_of, all_parts, count_at, sum_at}
-use Rattle.face_tallies.proofs.PartLaws.{count_of, sum_of, total-append}
+use Rattle.face_tallies.proofs.AddedParts.{count_of, sum_of, total-append}
 use Rattle.lists.specs.Bits.{set_number}
 use Rattle.lists.specs.Members.{In, Ascends}
 use Rattle.lists.proofs.Contained.{any_default, each-from_All}

@@ -5,7 +5,7 @@ use Rattle.std.proofs.lemmas.List.{length-map}
 use Rattle.polynomials.specs.Small.{IsSmall, AreSmall}
 use Rattle.polynomials.proofs.SmallLaws.{small-mul, small-sub, small-weaken, small-fits, small-back, same_ints}
 use Rattle.iso_model.specs.Turns.{minus}
-use Rattle.small_turn.proofs.PointLaws.{get_or-minus}
+use Rattle.small_turn.proofs.PointSums.{get_or-minus}
 use Rattle.small_turn.proofs.Planes.{length-minus}
 use Rattle.lists.proofs.Contained.{any_default}
 

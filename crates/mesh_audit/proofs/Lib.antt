@@ -1,5 +1,5 @@
 pub mod FindingLaws
 pub mod FindingTests
-pub mod GluedFaces
+pub mod GluedBySigns
 pub mod SignedKeyLists
 pub mod VertexRunLists

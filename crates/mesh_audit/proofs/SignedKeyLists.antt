@@ -36,7 +36,7 @@ use Rattle.std.proofs.lemmas.Bool.{cases_lt}
 use Rattle.mesh_laws.proofs.SignedFaces.{no_sign, signed_place}
 use Rattle.mesh_audit.specs.Findings.{AllGlued, face_at, has_wrong_face, is_glued, is_wrong_at, IsLeast, NonePasses, NoneRepeats, simplex_at}
 use Rattle.mesh_audit.specs.SignedKeys.{all_signed_faces, AreSignedFaces, sign_bit, signed_face, signed_faces_of}
-use Rattle.mesh_audit.proofs.GluedFaces.{glued_of_signs, signs_of_glued}
+use Rattle.mesh_audit.proofs.GluedBySigns.{glued_of_signs, signs_of_glued}
 
 -- ---- the keys of a simplex
 

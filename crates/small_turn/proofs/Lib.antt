@@ -1,6 +1,6 @@
 pub mod Cramer
 pub mod Planes
-pub mod PointLaws
+pub mod PointSums
 pub mod MatrixRows
 pub mod SpanLaws
 pub mod TurnExpr

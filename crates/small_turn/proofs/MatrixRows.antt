@@ -6,7 +6,7 @@ use Rattle.polynomials.specs.Small.{IsSmall, AreSmall}
 use Rattle.polynomials.proofs.SmallLaws.{small-add, small-sub, small-mul, small-fits, small-weaken, AreSmall-cons}
 use Rattle.lists.specs.Orders.{without}
 use Rattle.iso_model.specs.Turns.{dot, minus}
-use Rattle.small_turn.proofs.PointLaws.{dot-drop}
+use Rattle.small_turn.proofs.PointSums.{dot-drop}
 
 -- ---- a step of the sum of products
 

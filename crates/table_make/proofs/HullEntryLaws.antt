@@ -12,7 +12,7 @@ use Rattle.iso_model.specs.Acceptance.{side_turn}
 use Rattle.iso_model.specs.Tables.{IsTuple, IsEntry, IsTable}
 use Rattle.iso_model.specs.Entries.{oriented, IsEntryOf, IsHullTable}
 use Rattle.iso_model.proofs.DimensionLaws.{is_small_cell, dimension_cases}
-use Rattle.case_patch.proofs.PulledTuples.{tuple_wide, tuple_edges}
+use Rattle.case_patch.proofs.FoundTuples.{tuple_wide, tuple_edges}
 use Rattle.iso_base.specs.Parts.{start_of}
 use Rattle.iso_base.proofs.PartLaws.{starts_ascend}
 use Rattle.table_make.specs.HullEntries.{AreHullEntries, ArePieces}

@@ -1,5 +1,5 @@
 use Rattle.std.proofs.Math.IntN.{+ℤ_idr}
-use Rattle.small_turn.proofs.PointLaws.{dot-drop_past}
+use Rattle.small_turn.proofs.PointSums.{dot-drop_past}
 use Rattle.std.proofs.Common.{sym, ap, ◌∙◌, arith, ℤ, ◌+ℤ◌, w64, to_z}
 use Rattle.std.proofs.lemmas.Int.{to_z-of_z}
 use Rattle.small_turn.proofs.MatrixRows.{term_facts, sum_step}

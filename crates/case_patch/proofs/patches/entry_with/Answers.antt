@@ -2,7 +2,7 @@ use Rattle.std.proofs.Common.{◌≡◌, ◌<◌, ◌∙◌, ap, sym, subst, Lis
 use Rattle.std.proofs.lemmas.List.{length-map}
 use Rattle.iso_model.specs.Entries.{oriented}
 use Rattle.case_patch.proofs.Narrow.{bytes_fit}
-use Rattle.case_patch.proofs.PulledTuples.{tuple_wide, tuple_edges}
+use Rattle.case_patch.proofs.FoundTuples.{tuple_wide, tuple_edges}
 use Rattle.lists.proofs.Contained.{All-from_each}
 use Rattle.case_patch.proofs.AppendedLists.{written_back}
 use Rattle.case_patch.proofs.patches.entry_with.Goals as goal

@@ -5,7 +5,7 @@ use Rattle.pulling_tri.specs.PointSets.{point_set}
 use Rattle.case_patch.specs.Tuples.{Adds, IsTupleOfSome}
 use Rattle.case_patch.proofs.LabelPoints.{edges_below, corners_below, few_points}
 use Rattle.case_patch.proofs.OffSets.{boundary_is}
-use Rattle.case_patch.proofs.PulledTuples.{found_tuples}
+use Rattle.case_patch.proofs.FoundTuples.{found_tuples}
 use Rattle.std.proofs.lemmas.Result.{IfOk-weaker}
 use Rattle.case_patch.proofs.patches.pulled_tuples.Goals as goal
 

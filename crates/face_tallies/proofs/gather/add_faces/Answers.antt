@@ -1,6 +1,6 @@
 use Rattle.std.proofs.Common.{◌≡◌, ap, arith}
 use Rattle.face_tallies.specs.declared.faces.FaceTally.{FaceTally}
-use Rattle.face_tallies.proofs.PartLaws.{adds_none, adds_more, places_more, places_count}
+use Rattle.face_tallies.proofs.AddedParts.{adds_none, adds_more, places_more, places_count}
 use Rattle.face_tallies.proofs.gather.add_faces.Goals as goal
 
 pub loop-place-init : goal.loop-place-init

@@ -1,4 +1,4 @@
-use Rattle.face_tallies.proofs.PartLaws.{put_adds}
+use Rattle.face_tallies.proofs.AddedParts.{put_adds}
 use Rattle.face_tallies.proofs.gather.add_part.Goals as goal
 
 pub returns-then-slot-places : goal.returns-then-slot-places

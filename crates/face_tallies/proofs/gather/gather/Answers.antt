@@ -2,7 +2,7 @@ use Rattle.std.proofs.Common.{rules, arith, length, [], ◌<◌, ℕ, List, subs
 use Rattle.std.specs.Prelude.{All}
 use Rattle.std.proofs.lemmas.List.Elements.{All-nil}
 use Rattle.face_tallies.specs.Parts.{IsWeighed}
-use Rattle.face_tallies.proofs.PartLaws.{adds_none, adds_more, tuples_more, wide_more, few_faces}
+use Rattle.face_tallies.proofs.AddedParts.{adds_none, adds_more, tuples_more, wide_more, few_faces}
 use Rattle.face_tallies.proofs.gather.gather.Goals as goal
 
 pub loop-tuple-init : goal.loop-tuple-init

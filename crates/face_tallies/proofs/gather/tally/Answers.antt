@@ -1,4 +1,4 @@
-use Rattle.face_tallies.proofs.PartLaws.{adds_permutation}
+use Rattle.face_tallies.proofs.AddedParts.{adds_permutation}
 use Rattle.face_tallies.proofs.TallyLaws.{tallies_of_merge}
 use Rattle.face_tallies.proofs.gather.tally.Goals as goal
 

@@ -2,7 +2,7 @@ use Rattle.std.proofs.Common.{◌≡◌, ◌<◌, ◌-◌, ◌∷◌, length, ar
 use Rattle.std.proofs.lemmas.List.Elements.{All-nil}
 use Rattle.face_tallies.specs.declared.faces.FaceTally.{FaceTally}
 use Rattle.face_tallies.specs.Parts.{IsWeighed, put_at}
-use Rattle.face_tallies.proofs.PartLaws.{put_adds, adds_none, adds_more, taken_more, below_none, below_more, ascends_more}
+use Rattle.face_tallies.proofs.AddedParts.{put_adds, adds_none, adds_more, taken_more, below_none, below_more, ascends_more}
 use Rattle.lists.proofs.Contained.{any_default}
 use Rattle.face_tallies.proofs.parts.merge.Goals as goal
 

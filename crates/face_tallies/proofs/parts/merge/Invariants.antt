@@ -1,6 +1,6 @@
 use Rattle.std.proofs.Common.{[], take}
 use Rattle.face_tallies.specs.Parts.{AddsParts}
-use Rattle.face_tallies.proofs.PartLaws.{AscendsBySets, AreBelowRest}
+use Rattle.face_tallies.proofs.AddedParts.{AscendsBySets, AreBelowRest}
 use Rattle.face_tallies.proofs.parts.merge.Given as goal
 
 abbrev pub invariant-loop-part : goal.invariant-loop-part

@@ -1,6 +1,6 @@
 use Rattle.std.proofs.Common.{lit<, ℤ, List, pos, get_or, ◌-ℤ◌, ◌∙◌, ◌≡◌, sym, subst, length, length-set, arith}
 use Rattle.iso_model.specs.Turns.{minus}
-use Rattle.small_turn.proofs.PointLaws.{get_or-minus}
+use Rattle.small_turn.proofs.PointSums.{get_or-minus}
 use Rattle.small_turn.proofs.Planes.{length-minus}
 use Rattle.polynomials.specs.Small.{AreSmall}
 use Rattle.polynomials.proofs.SmallLaws.{same_ints, written_more, difference_back}
