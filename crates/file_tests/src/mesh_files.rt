@@ -51,13 +51,26 @@ const ROWS: [Row; 18] = [
     ),
 ];
 
-fn read(alloc: Global, text: &str) -> Result<Result<AnyOff, OffFault>, Fail> {
+/// The numbers of the calls of a shelf that fail, counted from the one that begins the file, and what is answered of a
+/// file of 12 bytes, of which a call takes three. Its third word is wrong, and ends in what the third take gives.
+type Failing = (&'static [u64], OffFault);
+
+const FAILING: [Failing; 4] = [
+    (&[1], OffFault::Shelf(1)),
+    // The take that the word ends in, and the last one, which is behind it.
+    (&[3], OffFault::Shelf(1)),
+    (&[5], OffFault::Shelf(1)),
+    // A call that is not made.
+    (&[6], OffFault::Count(1)),
+];
+
+fn read(alloc: Global, text: &str, fail: &[u64]) -> Result<Result<AnyOff, OffFault>, Fail> {
     let mut files = Vec::new(alloc);
     files.push(MemFile {
         name: String::from_str(alloc, "mesh")?,
         bytes: Vec::from_slice(alloc, text.as_bytes())?,
     })?;
-    let mut shelf = MemShelf::new(files, Vec::new(alloc), 3);
+    let mut shelf = MemShelf::new(files, Vec::from_slice(alloc, fail)?, 3);
     shelf.begin("mesh").ok().ok_or("begin")?;
     Ok(read_off(alloc, &mut shelf))
 }
@@ -73,10 +86,21 @@ fn counts(off: &AnyOff) -> (u32, usize) {
 #[test]
 fn files_are_read_or_refused(rt: HostRuntime) -> Result<(), Fail> {
     for (text, want) in &ROWS {
-        match (read(rt.alloc(), text)?, want) {
+        match (read(rt.alloc(), text, &[])?, want) {
             (Ok(off), Ok(want)) => assert_eq!(rt; counts(&off), *want, "{text}"),
             (Err(fault), Err(want)) => assert_eq!(rt; fault, *want, "{text}"),
             _ => return Err("another answer".into()),
+        }
+    }
+    Ok(())
+}
+
+#[test]
+fn a_failing_call_is_answered(rt: HostRuntime) -> Result<(), Fail> {
+    for (fail, want) in &FAILING {
+        match read(rt.alloc(), "OFF 1 x 0\n1\n", fail)? {
+            Err(fault) => assert_eq!(rt; fault, *want),
+            Ok(_) => return Err("a mesh".into()),
         }
     }
     Ok(())
