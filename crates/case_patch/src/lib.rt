@@ -12,8 +12,6 @@ mod moved;
 mod patches;
 mod points;
 mod sides;
-#[cfg(test)]
-mod tests;
 
 pub use facets::hull;
 pub use patches::{patch, patch_moved};

@@ -8,8 +8,6 @@
 mod least;
 mod moves;
 mod tables;
-#[cfg(test)]
-mod tests;
 mod words;
 
 pub use least::least_label;

@@ -4,8 +4,6 @@
 mod edges;
 mod facets;
 mod sets;
-#[cfg(test)]
-mod tests;
 
 pub use edges::keeps_edges;
 pub use facets::keeps_off_facets;

@@ -15,7 +15,5 @@ mod differences;
 mod planes;
 mod rows;
 mod spectra;
-#[cfg(test)]
-mod tests;
 
 pub use spectra::spectrum;

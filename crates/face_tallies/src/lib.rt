@@ -16,8 +16,6 @@ mod gather;
 mod parts;
 mod rule;
 mod signs;
-#[cfg(test)]
-mod tests;
 
 pub use faces::FaceTally;
 pub use gather::{TallyRoom, tally};

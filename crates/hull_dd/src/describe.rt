@@ -86,7 +86,7 @@ fn gather<const D: usize>(
 }
 
 /// The facets of the points, each once. `None` where the generators are not found, or one of them gives no facet.
-pub(crate) fn described_facets<const D: usize>(
+pub fn described_facets<const D: usize>(
     alloc: Global,
     points: &[[i32; D]],
 ) -> Result<Option<Vec<u64>>, Memory>

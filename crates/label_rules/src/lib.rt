@@ -9,7 +9,5 @@ mod canonical;
 mod cell_lists;
 mod rules;
 mod side;
-#[cfg(test)]
-mod tests;
 
 pub use canonical::Figures;

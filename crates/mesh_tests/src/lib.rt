@@ -9,4 +9,6 @@ mod meshes;
 #[cfg(test)]
 mod rings;
 #[cfg(test)]
+mod spectra;
+#[cfg(test)]
 mod splits;

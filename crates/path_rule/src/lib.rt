@@ -3,8 +3,6 @@
 #![tactic(auto)]
 
 mod rule;
-#[cfg(test)]
-mod tests;
 mod walk;
 
 pub use rule::keeps_path;

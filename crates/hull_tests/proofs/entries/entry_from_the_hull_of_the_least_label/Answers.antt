@@ -4,7 +4,7 @@ use Rattle.iso_model.specs.Entries.{label_points}
 use Rattle.iso_model.specs.Moves.{Move}
 use Rattle.halfspace.specs.Choices.{AreFacetNumbers}
 use Rattle.cube_moves.proofs.InverseMoves.{undone, undone_is, carried_once}
-use Rattle.case_patch.proofs.tests.entry_from_the_hull_of_the_least_label.Goals as goal
+use Rattle.hull_tests.proofs.entries.entry_from_the_hull_of_the_least_label.Goals as goal
 
 pub patch_moved-requires : goal.patch_moved-requires
 patch_moved-requires g c =

@@ -1,6 +1,6 @@
 //! The path rule at entries of the cube of three dimensions.
 
-use crate::keeps_path;
+use path_rule::keeps_path;
 
 /// The edges of the six facets of the cube. Edge 0 joins corners 0 and 1, edge 1 corners 0 and 2, edge 2 corners 1
 /// and 3, edge 3 corners 2 and 3; edges 4 to 7 join corners 0 to 3 with corners 4 to 7; edges 8 to 11 are edges 0 to 3

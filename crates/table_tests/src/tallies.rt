@@ -1,6 +1,6 @@
 //! Faces of some triangles, segments and tetrahedra.
 
-use crate::{FaceTally, TallyRoom, keeps_faces, tally};
+use face_tallies::{FaceTally, TallyRoom, keeps_faces, tally};
 use std::test::Fail;
 
 /// Six triangles round edge 6, and one with a repeated edge.

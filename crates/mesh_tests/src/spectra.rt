@@ -2,7 +2,7 @@
 
 ghost use Rattle.std.specs.Prelude.{◌^◌, ◌≤◌, ◌≤ℤ◌, ◌-ℤ◌, unsigned_abs};
 
-use crate::spectrum;
+use edge_spectrum::spectrum;
 use cell_lattice::{CubeCell, PyramidCell, SimplexCell};
 use grid_split::{Complex, Split};
 use nrrd_raw::Grid;

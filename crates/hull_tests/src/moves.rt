@@ -1,6 +1,6 @@
 //! Tests of single labels and of classes.
 
-use crate::{Move, least_label, move_corner, move_edge};
+use cube_moves::{Move, least_label, move_corner, move_edge};
 
 #[test]
 fn corners_and_edges_of_the_square(rt: HostRuntime) {

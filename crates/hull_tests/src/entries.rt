@@ -1,6 +1,6 @@
 //! Entries of single labellings.
 
-use crate::{hull, patch, patch_moved};
+use case_patch::{hull, patch, patch_moved};
 use cell_lattice::{CubeCell, PyramidCell, SimplexCell};
 use cube_moves::least_label;
 

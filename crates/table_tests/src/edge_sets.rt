@@ -1,6 +1,6 @@
 //! Rules on entries of the square.
 
-use crate::{bipolar_set, keeps_edges, keeps_off_facets};
+use edge_sets::{bipolar_set, keeps_edges, keeps_off_facets};
 
 /// The edges of the four facets of the square: 0 joins corners 0 and 1, 1 joins 0 and 2, 2 joins 1 and 3, 3 joins 2
 /// and 3.

@@ -1,6 +1,6 @@
 //! Rules on entries of the square, by its table.
 
-use crate::Figures;
+use label_rules::Figures;
 use cell_lattice::CubeCell;
 
 #[test]
