@@ -3,11 +3,8 @@ use Rattle.std.proofs.Common.{ap, arith, sym, ◌∙◌, inl, inr}
 use Rattle.std.proofs.lemmas.Bool.{cases_eq, cases_lt, eq-eqb, false≢true, ne_eqb}
 use Rattle.std.specs.Prelude.{Bool, false, nat_lt, true, ℕ, ◌&&◌, ◌||◌, ◌+◌, ◌<◌, ◌≤◌, ◌==◌, ◌≡◌, ◌≢◌, ◌⊎◌}
 use Rattle.lists.specs.Bits.{is_set}
-use Rattle.lists.proofs.Tests.{lt_of, of_lt, or_false, same_tests}
+use Rattle.lists.proofs.Tests.{lt_of, of_lt, or_false, same_tests, not_below}
 use Rattle.bit_rows.proofs.RowBits.{no_bits}
-
-pub not_below : (k p : ℕ) → p ≤ k → nat_lt k p ≡ false
-not_below k p h = same_tests (nat_lt k p) false (λ e. let lt = lt_of k p e in absurd (omega arith)) (λ e. absurd (false≢true e))
 
 -- the bits below a place say which places pass, and no other bit is set
 abbrev pub AreSetBelow : (ℕ → Bool) → ℕ → ℕ → Type 0
@@ -38,6 +35,3 @@ one_more_set passes place word after before added k low =
         strictly : k < place + 1 → (k < place) ⊎ (place ≤ k) → k < place
         strictly lt (inl less) = less
         strictly lt (inr more) = absurd (e (omega (arith, lt, more)))
-
-pub all_set_below : (passes : ℕ → Bool) (place word : ℕ) → AreSetBelow passes place word → (k : ℕ) → k < 64 → k < place → is_set word k ≡ passes k
-all_set_below passes place word is k low lt = is k low ∙ ap (λ t. t && passes k) (of_lt k place lt)

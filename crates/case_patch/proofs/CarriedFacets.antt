@@ -13,7 +13,6 @@ use Rattle.iso_model.specs.Entries.{label_edges, label_corners, label_points}
 use Rattle.iso_model.specs.Moves.{Move, Carries}
 use Rattle.halfspace.specs.Choices.{AreFacetNumbers, IsFacetNumber}
 use Rattle.halfspace.proofs.FoundSets.{digit, bit_of_number}
-use Rattle.cube_moves.proofs.OrderChecks.{few_axes}
 use Rattle.cube_moves.proofs.InverseMoves.{AreInverse, inverse_too, carries_back}
 use Rattle.case_patch.specs.FacetLists.{AreAllFacets}
 use Rattle.case_patch.specs.MovedPoints.{carried_point, carried_by}
@@ -28,6 +27,7 @@ use Rattle.lists.specs.Orders.{numbers, has}
 use Rattle.lists.specs.Bits.{is_set, set_number}
 use Rattle.lists.proofs.Contained.{from_Contains-map, below_contained, All-from_each, filter-same, Contains-mapped}
 use Rattle.iso_model.specs.Dimensions.{IsDimension}
+use Rattle.iso_model.proofs.CellCounts.{axes_between}
 
 -- the points of a labelling have d coordinates
 points_wide : (d label : ℕ) → IsDimension d → All (λ p. length p ≡ d) (label_points Cube d label)
@@ -43,7 +43,7 @@ points_wide d label is = All-append (λ p. length p ≡ d)
     (corners_below Cube d label)))
   where
     has_d : HasDimension Cube d
-    has_d = few_axes d is
+    has_d = axes_between d is
 
 facet_bit : (d : ℕ) (points : List (List ℤ)) (set : List ℕ) (j : ℕ) → IsFacet d points set → j < length points → is_set (set_number set) j ≡ has set j
 facet_bit d points set j f h =

@@ -14,13 +14,14 @@ use Rattle.iso_model.specs.Moves.{Move, IsMove, Carries, move_corner, move_edge}
 use Rattle.cell_lattice.specs.CellLemmas.{found_by_ends}
 use Rattle.cube_moves.specs.Joined.{IsJoined}
 use Rattle.cube_moves.proofs.MovedBits.{order_alone, flips_alone, with_flips, corner-below, corner-bit}
-use Rattle.cube_moves.proofs.OrderChecks.{back, each_below, each_order, few_axes, axis-below}
+use Rattle.cube_moves.proofs.OrderChecks.{back, each_below, each_order, axis-below}
 use Rattle.cube_moves.proofs.LeastLabels.{order_there, same_bit}
 use Rattle.cube_moves.proofs.ExchangeChecks.{order_of}
 use Rattle.cube_moves.proofs.MovedEdges.{edge_step, moved_joined}
 use Rattle.lists.specs.Orders.{numbers, orders, same_list}
 use Rattle.lists.specs.Bits.{is_set}
 use Rattle.iso_model.specs.Dimensions.{IsDimension}
+use Rattle.iso_model.proofs.CellCounts.{axes_between}
 
 -- ---- orders backwards
 
@@ -146,7 +147,7 @@ pub record EdgeMoved (d : ℕ) (by : Move) (e : ℕ) : Type 0 where
 
 pub edge_moved : (d : ℕ) → IsDimension d → (by : Move) → IsMove d by → (e : ℕ) → e < edge_count Cube d → EdgeMoved d by e
 edge_moved d is by move e h =
-    let has : HasDimension Cube d = few_axes d is in
+    let has : HasDimension Cube d = axes_between d is in
     let j = moved_joined d is by move e h in
     let found : j.0 ≡ move_edge d by e =
     sym (found_by_ends Cube d is has j.0 j.1) ∙ ap (λ (p : ℕ × ℕ). edge_between Cube d p.0 p.1) j.2 in
@@ -178,7 +179,7 @@ edge_moved_ends d is by move e h P turn p =
 
 pub edge_there : (d : ℕ) → IsDimension d → (by un : Move) → AreInverse d by un → (e : ℕ) → e < edge_count Cube d → move_edge d un (move_edge d by e) ≡ e
 edge_there d is by un i e h =
-    let has : HasDimension Cube d = few_axes d is in
+    let has : HasDimension Cube d = axes_between d is in
     let s = edge_step d is e h in
     let a : ℕ = (edge_ends Cube d e).0 in
     let b : ℕ = (edge_ends Cube d e).1 in

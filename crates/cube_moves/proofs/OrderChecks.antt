@@ -52,6 +52,3 @@ axis-below d is axes o i h =
     ltb-true (slice_index axes i) d
     (each_below (λ i. nat_lt (slice_index axes i) d) d
     (and_parts (length axes == d) (list_all (λ i. nat_lt (slice_index axes i) d) (numbers d)) (all_are_orders d is axes o)).1 i h)
-
-pub few_axes : (d : ℕ) → IsDimension d → (2 ≤ d) × (d ≤ 4)
-few_axes = in_each_dimension (λ d. (2 ≤ d) × (d ≤ 4)) (omega arith, omega arith) (omega arith, omega arith) (omega arith, omega arith)

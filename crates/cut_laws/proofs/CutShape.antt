@@ -9,7 +9,7 @@ use Rattle.lists.specs.Orders.{numbers, is_distinct, sorted, is_odd_order, excha
 use Rattle.lists.specs.Members.{In}
 use Rattle.lists.proofs.Sorting.{All-exchange_last}
 use Rattle.lists.proofs.Powers.{powers_few}
-use Rattle.lists.proofs.Contained.{Contains-head, Contains-tail, Contains-at, All-from_each}
+use Rattle.lists.proofs.Contained.{Contains-head, Contains-tail, Contains-at, All-from_each, All-flat_map}
 use Rattle.lists.proofs.MemberLaws.{In_from, all_In}
 use Rattle.iso_model.specs.declared.Kind.{Kind}
 use Rattle.iso_model.specs.declared.Kind.TheVariants.{Simplex}
@@ -25,10 +25,6 @@ use Rattle.cut_laws.specs.declared.Link.{Link}
 use Rattle.cut_laws.specs.Cuts.{is_late, links, label_of, late_label, link_at, number_in, position_on, triangles_in, cut_of}
 use Rattle.cut_laws.specs.CutSteps.{IsSimplex}
 use Rattle.cut_laws.proofs.NamedTriangles.{number_below}
-
-All-joined : {X Y : Type 0} (P : Y → Type 0) (f : X → List Y) (xs : List X) → ((x : X) → Contains xs x → All P (f x)) → All P (flat_map f xs)
-All-joined P f [] h = λ k d l. absurd (omega (arith, l))
-All-joined P f (x ∷ xs) h = All-append P (f x) (flat_map f xs) (h x (Contains-head x xs)) (All-joined P f xs (λ y c. h y (Contains-tail y x xs c)))
 
 All-placed : (P : ℕ → Type 0) (odd : Bool) (f : ℕ → ℕ) (t : List ℕ) → All P (map f t) → All P (placed_tuple odd f t)
 All-placed P true f t h = All-exchange_last P (map f t) h
@@ -84,7 +80,7 @@ module _ (t : Table) (is : IsTable t) (of : IsOfTetrahedron t) (accepted : IsAcc
     unfolding cut_of
     cut_shape = record {
       positions = All-map (λ p. length p ≡ 3) (position_on m.vertices time) (links m time) (λ k l h. refl);
-      corners = All-joined (λ w. length w ≡ 3) (triangles_in (is_late m time) (links m time) t) m.simplices (λ w c.
+      corners = All-flat_map (λ w. length w ≡ 3) (triangles_in (is_late m time) (links m time) t) m.simplices (λ w c.
           let label = late_label (is_late m time) w in
           All-map (λ v. length v ≡ 3) (placed_tuple (is_odd_order w) (λ e. number_in (links m time) (link_at w e))) (entry_of t label) (λ k v h.
           length-placed (is_odd_order w) (λ e. number_in (links m time) (link_at w e)) (slice_index_or (entry_of t label) k v)
@@ -96,7 +92,7 @@ module _ (t : Table) (is : IsTable t) (of : IsOfTetrahedron t) (accepted : IsAcc
     cut_vertices =
         let ls = links m time in
         let P : ℕ → Type 0 = λ k. k < length (map (position_on m.vertices time) ls) in
-        All-joined (All P) (triangles_in (is_late m time) ls t) m.simplices (λ w c.
+        All-flat_map (All P) (triangles_in (is_late m time) ls t) m.simplices (λ w c.
         let label = late_label (is_late m time) w in
         All-map (All P) (placed_tuple (is_odd_order w) (λ e. number_in ls (link_at w e))) (entry_of t label) (λ k v h.
         let triple = triples label (label_few (is_late m time) (sorted w)) k v h in

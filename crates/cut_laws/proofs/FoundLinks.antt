@@ -195,7 +195,3 @@ links_are n late simplices = record {
   ascend = ascends_filter (is_link late simplices) (pairs n) (pairs_ascend n);
   parted = λ l c. (link_ends n late simplices l c).2;
 }
-
--- a pair of which both ends are late, or none is, is no link
-pub not_parted : (late : ℕ → Bool) (ls : List Link) → AreLinks late ls → (l : Link) → is_parted late l ≡ false → Contains ls l → ⊥
-not_parted late ls are l e c = let p = are.parted l c in absurd (cc)

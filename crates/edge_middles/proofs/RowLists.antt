@@ -29,6 +29,7 @@ use Rattle.edge_middles.proofs.NextRows.{HaveParity, first_parity, has_parity, m
 use Rattle.edge_middles.proofs.OrderedPoints.{ComesFirst, append_ascends, first_by_head, first_by_rest, flat_map_ascends, passing_ascend}
 use Rattle.edge_middles.proofs.PointsThere.{along_axis, in_points, member_there, stands}
 use Rattle.edge_middles.proofs.RowCounts.{some_rest}
+use Rattle.std.proofs.lemmas.Bool.Decides.{nat_tests}
 
 -- ---- a row
 
@@ -174,9 +175,13 @@ module _ (v : Volume) (first second : ℕ → ℕ) (within : (x : ℕ) → first
             to_height v height m (ap length (sym at.2) ∙ its.0) at.3 (ap (middle_height v) (sym at.2) ∙ its.1),
       ))
 
+-- a coordinate of half steps joins two samples where the number of steps is odd
+pub half_odd : (k : ℕ) → (2 * k % 4 == 2) ≡ (k % 2 == 1)
+half_odd k = grind (arith, nat_tests)
+
 -- ---- the rows of a height
 
-long_row : (sizes : List ℕ) (height number : ℕ) → length (row_at sizes height number) ≡ length sizes
+pub long_row : (sizes : List ℕ) (height number : ℕ) → length (row_at sizes height number) ≡ length sizes
 long_row [] height number = refl
 long_row (n ∷ []) height number = refl
 long_row (n ∷ m ∷ sizes) height number = ap suc (long_row (m ∷ sizes) height (number / (2 * n - 1)))

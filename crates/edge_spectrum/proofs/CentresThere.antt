@@ -17,14 +17,11 @@ use Rattle.edge_spectrum.specs.declared.cubes.Cubes.{Cubes}
 use Rattle.edge_spectrum.specs.Counted.{apart_from, cube_total, grid_at, is_centre_above as is_above, reaches, sample}
 use Rattle.edge_spectrum.proofs.CountedRows.{count_but_last, count_same, row_length}
 use Rattle.edge_spectrum.proofs.WholeGrids.{cube_below, kept_here, none_past}
+use Rattle.std.proofs.lemmas.Bool.{and_right}
 
 with_kept : (test kept : Bool) → kept ≡ true → (test && kept) ≡ test
 with_kept true kept is = is
 with_kept false kept is = refl
-
-without_kept : (test kept : Bool) → kept ≡ false → (test && kept) ≡ false
-without_kept true kept is = is
-without_kept false kept is = refl
 
 corner_place : (n m last x y z : ℕ) → x + n * (y + m * (z + last * 0)) ≡ (y + z * m) * n + x
 corner_place n m last x y z = omega arith
@@ -125,12 +122,12 @@ module _ (n m last : ℕ) (samples : List ℤ) (step number : ℕ) (two : 2 ≤ 
   no_first : is_there v ((4 * (n - 1) + 1) ∷ rest) ≡ false
   no_first =
       (there_at_centre v rest (n - 1) refl refl joins).0
-      ∙ without_kept (differ (is_centre_above v ((n - 1) ∷ sample_below rest)) (is_above_at v ((n - 1) ∷ corner_by rest))) (is_kept_around v rest (n - 1)) past
+      ∙ and_right (differ (is_centre_above v ((n - 1) ∷ sample_below rest)) (is_above_at v ((n - 1) ∷ corner_by rest))) (is_kept_around v rest (n - 1)) past
 
   no_second : is_there v ((4 * (n - 1) + 3) ∷ rest) ≡ false
   no_second =
       (there_at_centre v rest (n - 1) refl refl joins).1
-      ∙ without_kept (differ (is_centre_above v ((n - 1) ∷ sample_below rest)) (is_above_at v ((n - 1 + 1) ∷ corner_by rest))) (is_kept_around v rest (n - 1))
+      ∙ and_right (differ (is_centre_above v ((n - 1) ∷ sample_below rest)) (is_above_at v ((n - 1 + 1) ∷ corner_by rest))) (is_kept_around v rest (n - 1))
       past
 
   pub centres_counted : length (centre_row v rest)

@@ -29,6 +29,7 @@ use Rattle.edge_spectrum.specs.Counted.{IsWalked, apart, axes_of, goes_along, gr
 use Rattle.edge_spectrum.specs.Growing.{one_if}
 use Rattle.edge_spectrum.proofs.CountedRows.{count_but_last, count_goes, count_same, row_length}
 use Rattle.edge_spectrum.proofs.WholeGrids.{below_there, cube_below, kept_here, last_of_rest, none_past}
+use Rattle.edge_middles.proofs.RowLists.{half_odd}
 
 -- ---- the directions of a row
 
@@ -67,9 +68,6 @@ one_of_two false before zero n two inside here low = absurd (false≢true (here 
 one_of_two false before (suc x) n two inside here low = let further = of_lt 0 (suc x) (omega arith) in (λ i. further i && low (omega arith) i)
 
 -- ---- the places of a row
-
-half_odd : (k : ℕ) → (2 * k % 4 == 2) ≡ (k % 2 == 1)
-half_odd k = grind (arith, nat_tests)
 
 never_odd : (k : ℕ) → k < 1 → one_if (k % 2 == 1) ≡ 0
 never_odd k few = let none : 0 ≡ k = omega (arith, few) in subst (λ n. one_if (n % 2 == 1) ≡ 0) none refl

@@ -53,11 +53,6 @@ count_set_past (x ∷ xs) (suc k) (suc i) v lt =
     let both : sum (take (suc i + 1) (x ∷ set xs k v)) ≡ sum (take (suc i + 1) (x ∷ xs)) =
     omega (arith, rest, take-suc x (set xs k v) i, take-suc x xs i) in both
 
--- ---- numbers modulo 2^64
-
-pub same_plus : (a b c : ℕ) → AreSame64 a b → AreSame64 (a + c) (b + c)
-same_plus a b c h = omega (arith, h)
-
 -- ---- growing
 
 pub grows_both : (a b c : Differences) (f g : ℤ → ℕ) → Grows a b f → Grows b c g → Grows a c (λ iso. f iso + g iso)
@@ -87,13 +82,6 @@ grows_same a b f g same h = record {
   isovalues = h.isovalues;
   counts = λ i lt. h.counts i lt ∙ ap (λ n. (count_at a i + n) % 2 ^ 64) (same (iso_after a.from i));
 }
-
-pub grows_if : (goes : Bool) (a b : Differences) (f : ℤ → ℕ) → goes ≡ true → Grows a b f → Grows a b (λ iso. if goes then f iso else 0)
-grows_if goes a b f is h = grows_same a b f (λ iso. if goes then f iso else 0) (λ iso. ap (λ t. if t then f iso else 0) (sym is)) h
-
-pub grows_not : (goes : Bool) (a : Differences) (f : ℤ → ℕ) → goes ≡ false → AreDifferences a → Grows a a (λ iso. if goes then f iso else 0)
-grows_not goes a f is sound =
-    grows_same a a (λ iso. 0) (λ iso. if goes then f iso else 0) (λ iso. ap (λ t. if t then f iso else 0) (sym is)) (grows_none a sound)
 
 pub bit_is : (b : Bool) → bit b ≡ one_if b
 bit_is true = refl
@@ -126,12 +114,6 @@ eighth_small (pos a) h = omega (arith, h)
 eighth_small (negsuc a) h = omega (arith, h)
 
 -- ---- an edge is added
-
--- a place within a list has the same whatever stands for those outside
-pub any_item : (xs : List ℕ) (i d : ℕ) → i < length xs → get_or xs i d ≡ get_or xs i 0
-any_item [] i d h = absurd (omega (arith, h))
-any_item (x ∷ xs) zero d h = refl
-any_item (x ∷ xs) (suc i) d h = any_item xs i d (omega (arith, h))
 
 pub not_below : (a b : ℕ) → nat_lt a b ≡ false → b ≤ a
 not_below a b h = grind (arith, nat_tests)
@@ -223,9 +205,3 @@ reached_is from value z n i is h = by_case (int_le (from +ℤ pos i) value) refl
     by_case : (t : Bool) → int_le (from +ℤ pos i) value ≡ t → nat_lt i (unsigned_abs z) ≡ t
     by_case true t = of_lt i (unsigned_abs z) (inside t)
     by_case false t = let past : unsigned_abs z ≤ i = outside t in grind (arith, nat_tests)
-
--- ---- answers
-
-pub IfOk-weaker : {T E : Type 0} (r : Result T E) (P Q : T → Type 0) → ((x : T) → P x → Q x) → IfOk r P → IfOk r Q
-IfOk-weaker (Ok x) P Q f p = f x p
-IfOk-weaker (Err e) P Q f p = p

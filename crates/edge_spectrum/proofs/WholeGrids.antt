@@ -7,8 +7,8 @@ use Rattle.std.specs.List.{list_any}
 use Rattle.std.specs.Prelude.{ℕ, suc, ◌+◌, ◌-◌, ◌*◌, ◌/◌, ◌%◌, ◌<◌, ◌≤◌, ◌≡◌, Bool, true, false, ◌&&◌, ◌||◌, List, [], ◌∷◌, All, drop, length, map}
 use Rattle.std.specs.Prelude.{nat_lt, slice_index, ℤ}
 use Rattle.lists.specs.Members.{In}
-use Rattle.lists.proofs.MemberLaws.{In-flat_map, In-map, any_from}
-use Rattle.lists.proofs.Tests.{lt_of, of_lt, same_tests}
+use Rattle.lists.proofs.MemberLaws.{In-flat_map, In-map, any_from, any_none}
+use Rattle.lists.proofs.Tests.{lt_of, of_lt, same_tests, not_below}
 use Rattle.iso_model.specs.declared.Kind.{Kind}
 use Rattle.iso_model.specs.Values.{Grid}
 use Rattle.edge_middles.specs.RowLists.{row_at}
@@ -53,13 +53,6 @@ has_from : (sizes : List ℕ) (x : ℕ) (places : List ℕ) → 1 ≤ length siz
 has_from [] x places some = absurd (omega (arith, some))
 has_from (n ∷ sizes) x places some = refl
 
-past_end : (a b : ℕ) → b ≤ a → nat_lt a b ≡ false
-past_end a b h = same_tests (nat_lt a b) false (λ t. let lt = lt_of a b t in absurd (omega (arith, lt, h))) (λ t. absurd (false≢true t))
-
-none_holds : {X : Type 0} (p : X → Bool) (xs : List X) → ((x : X) → p x ≡ false) → list_any p xs ≡ false
-none_holds p [] none = refl
-none_holds p (x ∷ xs) none = (λ i. none x i || none_holds p xs none i)
-
 module _ (kind : Kind) (grid : Grid) (iso : ℤ) (some : 1 ≤ length grid.sizes) where
   kept_from : (x : ℕ) (places : List ℕ)
       → is_kept_at (grid_at kind grid iso) (x ∷ places) ≡ ((nat_lt (x + 1) (slice_index grid.sizes 0) && has_cube_at (drop 1 grid.sizes) places) && true)
@@ -74,5 +67,5 @@ module _ (kind : Kind) (grid : Grid) (iso : ℤ) (some : 1 ≤ length grid.sizes
 
   pub none_past : (rest : List ℕ) (x : ℕ) → slice_index grid.sizes 0 ≤ x + 1 → is_kept_around (grid_at kind grid iso) rest x ≡ false
   none_past rest x past =
-      none_holds (λ places. is_kept_at (grid_at kind grid iso) (x ∷ places)) (cubes_around rest)
-      (λ places. kept_from x places ∙ ap (λ t. (t && has_cube_at (drop 1 grid.sizes) places) && true) (past_end (x + 1) (slice_index grid.sizes 0) past))
+      any_none (λ places. is_kept_at (grid_at kind grid iso) (x ∷ places)) (cubes_around rest)
+      (λ places. kept_from x places ∙ ap (λ t. (t && has_cube_at (drop 1 grid.sizes) places) && true) (not_below (x + 1) (slice_index grid.sizes 0) past))

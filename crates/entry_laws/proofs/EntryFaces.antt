@@ -13,12 +13,12 @@ use Rattle.iso_model.specs.Faces.{face_without, face_count, face_sum}
 use Rattle.iso_model.specs.Acceptance.{is_face_right, rule_faces}
 use Rattle.mesh_laws.proofs.FaceSigns.{Each-sorted, from_Each-sorted, Part, rest, after, has_signed}
 use Rattle.mesh_laws.proofs.SignedFaces.{face_count_is, face_sum_is}
-use Rattle.entry_laws.proofs.KeptMembers.{all_each, each_from_all, from_In-filter, some_member, no_member, only_member}
+use Rattle.entry_laws.proofs.KeptMembers.{each_from_all, some_member, no_member, only_member}
 use Rattle.entry_laws.proofs.TupleLaws.{facet_found}
 use Rattle.lists.specs.Members.{In, Each, Distinct}
 use Rattle.lists.proofs.Tests.{equal_of}
 use Rattle.lists.proofs.DistinctLists.{distinct_test}
-use Rattle.lists.proofs.MemberLaws.{In-numbers, from_In-numbers}
+use Rattle.lists.proofs.MemberLaws.{In-numbers, from_In-numbers, all_In, from_filter}
 use Rattle.iso_model.proofs.PointLaws.{same_int-is}
 
 -- a list without one place is the list without some place k
@@ -35,13 +35,13 @@ face_right kind d ws w l rule i distinct part =
     let place = part_place part in
     let test : ℕ → Bool = λ k. is_face_right ws (face_without w k) (length (facets_with kind d (face_without w k))) in
     let tuple =
-    all_each
+    all_In
     (λ v.
     not (is_distinct v)
     || list_all (λ k. is_face_right ws (face_without v k) (length (facets_with kind d (face_without v k)))) (numbers (length v)))
     ws rule w i in
     let all = second (is_distinct w) (list_all test (numbers (length w))) (distinct_test w distinct) tuple in
-    let at : test place.0 ≡ true = all_each test (numbers (length w)) all place.0 (In-numbers (length w) place.0 place.1) in
+    let at : test place.0 ≡ true = all_In test (numbers (length w)) all place.0 (In-numbers (length w) place.0 place.1) in
     subst (λ (v : List ℕ). is_face_right ws (sorted v) (length (facets_with kind d (sorted v))) ≡ true) place.2 at
   where
     second : (a b : Bool) → a ≡ true → (not a || b) ≡ true → b ≡ true
@@ -72,7 +72,7 @@ facet_of_face kind d f l less all = facet_found kind d f (sorted l) less (Each-s
 in_none : (kind : Kind) (d : ℕ) (l : List ℕ) → ((f : ℕ) → f < facet_count kind d → ¬ Each (λ e. edge_in_facet kind d f e ≡ true) l)
     → length (facets_with kind d (sorted l)) ≡ 0
 in_none kind d l off = no_member (facets_with kind d (sorted l)) (λ f i.
-    let r = from_In-filter (λ g. list_all (edge_in_facet kind d g) (sorted l)) (numbers (facet_count kind d)) f i in
+    let r = from_filter (λ g. list_all (edge_in_facet kind d g) (sorted l)) (numbers (facet_count kind d)) f i in
     off f (from_In-numbers (facet_count kind d) f r.0)
     (from_Each-sorted (λ e. edge_in_facet kind d f e ≡ true) l (each_from_all (edge_in_facet kind d f) (sorted l) r.1)))
 

@@ -4,9 +4,8 @@ use Rattle.std.specs.Prelude.{map, ◌⊎◌}
 use Rattle.iso_model.specs.declared.Kind.{Kind}
 use Rattle.lists.specs.Orders.{numbers, choices}
 use Rattle.iso_model.specs.Cells.{edge_count, edge_in_facet, facet_edges}
-use Rattle.entry_laws.proofs.KeptMembers.{In-filter}
 use Rattle.lists.specs.Members.{In, Each, Ascends}
-use Rattle.lists.proofs.MemberLaws.{In-map, In-append_left, In-append_right, Each-In, In-numbers}
+use Rattle.lists.proofs.MemberLaws.{In-map, In-append_left, In-append_right, Each-In, In-numbers, In-filter}
 use Rattle.iso_model.proofs.SignLaws.{facet_edges_ascend}
 
 -- ---- ascending lists

@@ -11,13 +11,12 @@ use Rattle.iso_model.specs.Bipolar.{is_bipolar_in}
 use Rattle.iso_model.specs.Tables.{Table, IsTable, entry_of}
 use Rattle.iso_model.specs.Acceptance.{others_at, goes_on, leads, is_path, rule_path, IsAccepted}
 use Rattle.cell_lattice.specs.CellLemmas.{two_facets}
-use Rattle.entry_laws.proofs.KeptMembers.{all_each, In-filter, from_In-filter}
 use Rattle.entry_laws.proofs.TupleLaws.{facet_found}
 use Rattle.entry_laws.proofs.LabelLaws.{LabelLaws, label_laws}
 use Rattle.entry_laws.proofs.OrderMembers.{order_inside, order_whole}
 use Rattle.lists.specs.Members.{In}
 use Rattle.lists.proofs.Tests.{equal_of, differ_test}
-use Rattle.lists.proofs.MemberLaws.{In-map, from_In-map, from_any, In_of_has, has_of_In, Each-In, In-numbers}
+use Rattle.lists.proofs.MemberLaws.{In-map, from_In-map, from_any, In_of_has, has_of_In, Each-In, In-numbers, all_In, In-filter, from_filter}
 
 -- ---- chains of tuples
 
@@ -53,7 +52,7 @@ pub record HasFurther (ws : List (List ℕ)) (e x : ℕ) (w : List ℕ) : Type 0
 -- an edge of the others of a tuple is a further edge of it
 further_of : (ws : List (List ℕ)) (e x : ℕ) (w : List ℕ) → In w ws → In e w → In x (others e w) → HasFurther ws e x w
 further_of ws e x w i has_e j =
-    let d = from_In-filter (λ y. not (y == e)) w x j in
+    let d = from_filter (λ y. not (y == e)) w x j in
     record { is_tuple = i; has_e = has_e; has_x = d.0; off = differ_test x e d.1 }
 
 -- a tuple at e has its others among those at e
@@ -70,7 +69,7 @@ record IsOthers (ws : List (List ℕ)) (e : ℕ) (v : List ℕ) : Type 0 where
 of_listed : (ws : List (List ℕ)) (e : ℕ) (v : List ℕ) → In v (others_at e ws) → IsOthers ws e v
 of_listed ws e v i =
     let a = from_In-map (others e) (filter (λ w. has w e) ws) v i in
-    let b = from_In-filter (λ w. has w e) ws a.0 a.1 in
+    let b = from_filter (λ w. has w e) ws a.0 a.1 in
     record { tuple = a.0; is_tuple = b.0; has_e = In_of_has a.0 e b.1; is = a.2 }
 
 further_in : (ws : List (List ℕ)) (e x : ℕ) (v : List ℕ) (o : IsOthers ws e v) → In x v → HasFurther ws e x o.tuple
@@ -215,7 +214,7 @@ path_at : (kind : Kind) (label : ℕ) (ws : List (List ℕ)) (e : ℕ) → rule_
     → IsPathThrough kind ws e (facet_at kind e 0) (facet_at kind e 1)
 path_at kind label ws e rule is_edge bipolar =
     let found =
-    all_each (λ k. not (is_bipolar_in kind 3 label k) || is_path kind 3 k ws) (numbers (edge_count kind 3)) rule e
+    all_In (λ k. not (is_bipolar_in kind 3 label k) || is_path kind 3 k ws) (numbers (edge_count kind 3)) rule e
     (In-numbers (edge_count kind 3) e is_edge) in
     path_through kind ws e (facet_at kind e 0) (facet_at kind e 1) (second (is_bipolar_in kind 3 label e) (is_path kind 3 e ws) bipolar found)
   where

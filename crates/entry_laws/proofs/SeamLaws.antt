@@ -17,12 +17,11 @@ use Rattle.mesh_laws.proofs.FaceSigns.{has_signed}
 use Rattle.mesh_laws.proofs.FaceOf.{face_place}
 use Rattle.mesh_laws.proofs.FaceLists.{sorted_ascends, face_ascends, length_face}
 use Rattle.mesh_laws.proofs.SignedFaces.{face_count_is, face_sum_is, count_parity}
-use Rattle.entry_laws.proofs.KeptMembers.{all_each}
 use Rattle.entry_laws.proofs.TupleLaws.{tuple_of}
 use Rattle.entry_laws.proofs.FacetChoices.{choice_of_facet}
 use Rattle.lists.specs.Members.{In, Each, Distinct, Ascends}
 use Rattle.lists.proofs.Tests.{and_left, equal_of, of_equal, same_number}
-use Rattle.lists.proofs.MemberLaws.{In-map, In-numbers}
+use Rattle.lists.proofs.MemberLaws.{In-map, In-numbers, all_In}
 use Rattle.lists.proofs.Sorting.{bit}
 use Rattle.lists.proofs.Counts.{count_none, from_count, not_there}
 use Rattle.lists.proofs.DistinctLists.{distinct_test, from_distinct_test}
@@ -137,10 +136,10 @@ seam_kept : (t : Table) (s : Seam) (here there : ℕ) → IsAccepted t → In s 
 seam_kept t s here there accepted i less_here less_there meet =
     let rule : rule_seams (seams t.kind t.dimension) t here ≡ true = accepted here 6 less_here (omega arith) in
     let labels =
-    all_each (λ (u : Seam). list_all (λ m. meets_across t u here m && meets_across t u m here) (numbers (label_count t.kind t.dimension)))
+    all_In (λ (u : Seam). list_all (λ m. meets_across t u here m && meets_across t u m here) (numbers (label_count t.kind t.dimension)))
     (seams t.kind t.dimension) rule s i in
     let both =
-    all_each (λ m. meets_across t s here m && meets_across t s m here) (numbers (label_count t.kind t.dimension)) labels there
+    all_In (λ m. meets_across t s here m && meets_across t s m here) (numbers (label_count t.kind t.dimension)) labels there
     (In-numbers (label_count t.kind t.dimension) there less_there) in
     second (labels_meet t.kind t.dimension s here there) (entries_meet t.kind t.dimension s (entry_of t here) (entry_of t there)) meet
     (and_parts (meets_across t s here there) (meets_across t s there here) both).0
@@ -159,7 +158,7 @@ choice_meets kind d s here there face meet fit ascends all =
     let ascending : Ascends face = subst (λ (v : List ℕ). Ascends v) ascends (sorted_ascends face (from_distinct_test face parts.0)) in
     let chosen : In face (choices (d - 1) (facet_edges kind d s.facet)) =
     subst (λ (n : ℕ). In face (choices n (facet_edges kind d s.facet))) wide (choice_of_facet kind d s.facet face ascending all) in
-    all_each (face_meets kind d s here there) (choices (d - 1) (facet_edges kind d s.facet)) meet face chosen
+    all_In (face_meets kind d s here there) (choices (d - 1) (facet_edges kind d s.facet)) meet face chosen
 
 -- the entry there has the image of a face with a sign as often as the entry here has the face, with the same sign where the parities differ, and with
 -- the other where they are the same

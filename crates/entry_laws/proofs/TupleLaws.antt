@@ -9,11 +9,11 @@ use Rattle.iso_model.specs.Bipolar.{is_bipolar_in}
 use Rattle.iso_model.specs.Tables.{Table, IsTable, IsTuple, IsEntry, entry_of}
 use Rattle.iso_model.specs.Acceptance.{is_sound_tuple, rule_edges, rule_inside}
 use Rattle.iso_model.proofs.DimensionLaws.{dimension_cases}
-use Rattle.entry_laws.proofs.KeptMembers.{all_each, all_from_each, each_from_all, In-filter, some_member}
+use Rattle.entry_laws.proofs.KeptMembers.{all_from_each, each_from_all, some_member}
 use Rattle.lists.specs.Members.{In, Each, Distinct}
 use Rattle.lists.proofs.Tests.{equal_of}
 use Rattle.lists.proofs.Contained.{each-from_All}
-use Rattle.lists.proofs.MemberLaws.{Contains_from, from_any, In_of_has, Each-In, Each-from_In, In-numbers}
+use Rattle.lists.proofs.MemberLaws.{Contains_from, from_any, In_of_has, Each-In, Each-from_In, In-numbers, all_In, In-filter}
 use Rattle.lists.proofs.DistinctLists.{from_distinct_test}
 
 -- a cell has two dimensions or more
@@ -45,7 +45,7 @@ pub sound_tuple : (kind : Kind) (d label : ℕ) (ws : List (List ℕ)) (w : List
     → IsTuple kind d w → IsSound kind d label w
 sound_tuple kind d label ws w has rule i tuple =
     let parts = and_parts (list_all (is_sound_tuple kind d label) ws) _ rule in
-    let sound = and_parts (length w == d && is_distinct w) (list_all (is_bipolar_in kind d label) w) (all_each (is_sound_tuple kind d label) ws parts.0 w i) in
+    let sound = and_parts (length w == d && is_distinct w) (list_all (is_bipolar_in kind d label) w) (all_In (is_sound_tuple kind d label) ws parts.0 w i) in
     let bipolar = each_from_all (is_bipolar_in kind d label) w sound.1 in
     record {
       distinct = from_distinct_test w (and_parts (length w == d) (is_distinct w) sound.0).1;
@@ -62,7 +62,7 @@ pub edge_covered : (kind : Kind) (d label : ℕ) (ws : List (List ℕ)) (e : ℕ
 edge_covered kind d label ws e rule less bipolar =
     let parts = and_parts (list_all (is_sound_tuple kind d label) ws) _ rule in
     let found =
-    all_each (λ k. not (is_bipolar_in kind d label k) || list_any (λ w. has w k) ws) (numbers (edge_count kind d)) parts.1 e
+    all_In (λ k. not (is_bipolar_in kind d label k) || list_any (λ w. has w k) ws) (numbers (edge_count kind d)) parts.1 e
     (In-numbers (edge_count kind d) e less) in
     let r = from_any (λ w. has w e) ws (second (is_bipolar_in kind d label e) (list_any (λ w. has w e) ws) bipolar found) in
     (r.0, r.1, In_of_has r.0 e r.2)
@@ -83,6 +83,6 @@ facet_found kind d f es less all =
 pub tuple_off_facet : (kind : Kind) (d : ℕ) (ws : List (List ℕ)) (w : List ℕ) (f : ℕ) → rule_inside kind d ws ≡ true → In w ws → f < facet_count kind d
     → ¬ Each (λ e. edge_in_facet kind d f e ≡ true) w
 tuple_off_facet kind d ws w f rule i less all =
-    let none = equal_of (length (facets_with kind d w)) 0 (all_each (λ v. length (facets_with kind d v) == 0) ws rule w i) in
+    let none = equal_of (length (facets_with kind d w)) 0 (all_In (λ v. length (facets_with kind d v) == 0) ws rule w i) in
     let some = some_member f (facets_with kind d w) (facet_found kind d f w less all) in
     omega (arith, none, some)

@@ -78,9 +78,6 @@ few_samples d size is = in_each_dimension (λ d. size ≤ size_limit d → size 
     (λ h. let p = pow-le-pow_left {n = size} {m = 64} h 3 in omega (arith, p))
     (λ h. let p = pow-le-pow_left {n = size} {m = 16} h 4 in omega (arith, p)) d is
 
-pub axes_limits : (d : ℕ) → IsDimension d → (2 ≤ d) × (d ≤ 4)
-axes_limits = in_each_dimension (λ d. (2 ≤ d) × (d ≤ 4)) (omega arith, omega arith) (omega arith, omega arith) (omega arith, omega arith)
-
 pub grid_axes : (d size seed : ℕ) (g : Grid) → g ≡ demo_grid d size seed → length g.sizes ≡ d
 grid_axes d size seed g e = ap (λ (x : Grid). length x.sizes) e ∙ length-replicate d size
 

@@ -15,6 +15,9 @@ some_axes d (inl e) = omega (arith, e)
 some_axes d (inr (inl e)) = omega (arith, e)
 some_axes d (inr (inr e)) = omega (arith, e)
 
+pub axes_between : (d : ℕ) → IsDimension d → (2 ≤ d) × (d ≤ 4)
+axes_between d is = (omega (arith, is), omega (arith, is))
+
 pub few_axes : (d : ℕ) → IsDimension d → d ≤ 4
 few_axes = in_each_dimension (λ n. n ≤ 4) (omega arith) (omega arith) (omega arith)
 

@@ -16,7 +16,7 @@ use Rattle.edge_middles.specs.Middles.{edge_at, joins_samples}
 use Rattle.edge_middles.specs.RowLists.{row_at, rows_at, sample_row}
 use Rattle.edge_middles.specs.WhatIsThere.{sample_above, sample_below}
 use Rattle.edge_middles.proofs.PointsThere.{along_axis}
-use Rattle.edge_middles.proofs.RowLists.{row_by_row}
+use Rattle.edge_middles.proofs.RowLists.{row_by_row, long_row}
 use Rattle.edge_vertex.specs.Sums.{AreSmall, sample}
 use Rattle.bit_rows.specs.Rows.{word_count}
 use Rattle.grid_split.proofs.CubeNumbers.{size_below_product}
@@ -35,11 +35,6 @@ use Rattle.layer_mesh.proofs.RowsInGrids.{StandsByRows, rows_counted, stands_by_
 use Rattle.layer_mesh.proofs.RowsOfVertices.{StandsIn, row_crossed, row_is}
 
 -- ---- the coordinates of a row
-
-long_row : (sizes : List ℕ) (height n : ℕ) → length (row_at sizes height n) ≡ length sizes
-long_row [] height n = refl
-long_row (m ∷ []) height n = refl
-long_row (m ∷ k ∷ sizes) height n = ap suc (long_row (k ∷ sizes) height (n / (2 * m - 1)))
 
 even_row : (sizes : List ℕ) (height n : ℕ) → height % 2 ≡ 0 → joins_samples (row_at sizes height n) ≡ true
 even_row [] height n even = refl

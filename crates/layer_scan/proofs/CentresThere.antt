@@ -6,13 +6,12 @@ use Rattle.std.specs.List.{list_any}
 use Rattle.std.specs.Prelude.{All, Bool, List, [], ◌∷◌, count_by, drop, false, length, nat_lt, slice_index, suc, true, ℕ, if◌then◌else◌}
 use Rattle.std.specs.Prelude.{◌&&◌, ◌||◌, ◌==◌, ◌%◌, ◌*◌, ◌+◌, ◌-◌, ◌/◌, ◌<◌, ◌≤◌, ◌≡◌, ◌⊎◌}
 use Rattle.lists.specs.Orders.{numbers}
-use Rattle.lists.proofs.Tests.{of_equal, of_lt}
+use Rattle.lists.proofs.Tests.{of_equal, of_lt, not_below}
 use Rattle.iso_model.specs.declared.Kind.TheVariants.{Pyramid}
 use Rattle.iso_model.specs.Bipolar.{differ}
 use Rattle.iso_model.specs.Cells.{HasDimension}
 use Rattle.iso_model.specs.Values.{Volume}
 use Rattle.bit_rows.specs.Rows.{row_bit, word_count}
-use Rattle.bit_rows.proofs.SetBelow.{not_below}
 use Rattle.grid_rows.specs.declared.grids.GridRows.{GridRows}
 use Rattle.grid_rows.specs.declared.grids.MiddleAxis.{MiddleAxis}
 use Rattle.grid_rows.specs.declared.planes.BitPlane.{BitPlane}

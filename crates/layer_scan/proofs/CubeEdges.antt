@@ -40,9 +40,9 @@ use Rattle.layer_scan.proofs.CentresThere.{axes_of_three}
 use Rattle.layer_scan.proofs.CubeRanks.{HasCentreRanks, HasSampleRanks, centre_ranks, sample_ranks}
 use Rattle.layer_scan.proofs.EdgesThere.{stands_in_halves}
 use Rattle.layer_scan.proofs.EdgesTold.{pyramid_or_not}
-use Rattle.layer_scan.proofs.GridSlices.{axes_between}
 use Rattle.layer_scan.proofs.RanksWritten.{ranks_kept}
 use Rattle.layer_scan.proofs.RowsInOrder.{row_stands}
+use Rattle.iso_model.proofs.CellCounts.{axes_between}
 
 -- what is counted for the cubes at a place of a word
 pub record IsCounted (slots : CubeSlots) (place : ℕ) (numbers : List ℕ) : Type 0 where

@@ -30,8 +30,8 @@ use Rattle.layer_scan.specs.RowsOfEdges.{number_at, row_number}
 use Rattle.layer_scan.specs.ScanEdges.{AreNumberedTo}
 use Rattle.layer_scan.proofs.EdgePlaneSteps.{next_row}
 use Rattle.layer_scan.proofs.EdgesThere.{TellsEnds, row_told, stands_in_halves}
-use Rattle.layer_scan.proofs.GridSlices.{axes_between}
 use Rattle.layer_scan.proofs.RowsInOrder.{row_end, row_next, row_stands, rows_there}
+use Rattle.iso_model.proofs.CellCounts.{axes_between}
 
 -- ---- a plane whose rows have two midpoints at each place
 

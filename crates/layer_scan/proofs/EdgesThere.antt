@@ -30,14 +30,10 @@ use Rattle.layer_scan.specs.Directions.{axes_of, goes_along}
 use Rattle.layer_scan.specs.GridPlanes.{AreRowsOf, TellsSigns, after_first}
 use Rattle.layer_scan.specs.PlanesOfEdges.{edge_row_at, first_by, second_by}
 use Rattle.layer_scan.specs.RowsOfEdges.{around}
-use Rattle.layer_scan.proofs.GridSlices.{axes_between}
+use Rattle.iso_model.proofs.CellCounts.{axes_between}
+use Rattle.edge_middles.proofs.RowLists.{half_odd}
 
 -- ---- rows at half steps along the middle axes
-
-half_odd : (i : ℕ) → (2 * i % 4 == 2) ≡ (i % 2 == 1)
-half_odd i = same_tests (2 * i % 4 == 2) (i % 2 == 1)
-    (λ t. of_equal (i % 2) 1 (let e : 2 * i % 4 ≡ 2 = equal_of (2 * i % 4) 2 t in omega (arith, e)))
-    (λ t. of_equal (2 * i % 4) 2 (let e : i % 2 ≡ 1 = equal_of (i % 2) 1 t in omega (arith, e)))
 
 even_half : (i : ℕ) → (2 * i % 2 == 0) ≡ true
 even_half i = of_equal (2 * i % 2) 0 (omega arith)

@@ -42,9 +42,10 @@ use Rattle.layer_scan.proofs.CentresThere.{TellsSides, axes_of_three, centres_to
 use Rattle.layer_scan.proofs.EdgeNumbers.{edges_told}
 use Rattle.layer_scan.proofs.EdgesThere.{TellsEnds}
 use Rattle.layer_scan.proofs.GridKept.{kept_upright}
-use Rattle.layer_scan.proofs.GridSlices.{axes_between, sample_of_slice}
+use Rattle.layer_scan.proofs.GridSlices.{sample_of_slice}
 use Rattle.layer_scan.proofs.HeightsMet.{plain_odd}
 use Rattle.layer_scan.proofs.KeptAtSlices.{kept_at_last, kept_at_slice}
+use Rattle.iso_model.proofs.CellCounts.{axes_between}
 
 -- ---- before the first slice
 

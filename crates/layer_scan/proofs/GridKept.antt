@@ -5,11 +5,10 @@ use Rattle.std.proofs.Math.Bool.{and-false}
 use Rattle.std.specs.List.{list_any}
 use Rattle.std.specs.Prelude.{Bool, List, [], ◌∷◌, ◌++◌, false, flat_map, length, map, nat_lt, take, true}
 use Rattle.std.specs.Prelude.{ℕ, ◌&&◌, ◌||◌, ◌*◌, ◌+◌, ◌-◌, ◌/◌, ◌<◌, ◌≤◌, ◌≡◌, ◌≢◌, ◌⊎◌}
-use Rattle.lists.proofs.Tests.{or_false}
+use Rattle.lists.proofs.Tests.{or_false, not_below}
 use Rattle.iso_model.specs.Dimensions.{IsDimension, in_each_dimension}
 use Rattle.iso_model.specs.Values.{Volume}
 use Rattle.iso_model.proofs.DimensionLaws.{dimension_cases}
-use Rattle.bit_rows.proofs.SetBelow.{not_below}
 use Rattle.grid_rows.specs.declared.grids.GridRows.{GridRows}
 use Rattle.grid_rows.specs.declared.grids.MiddleAxis.{MiddleAxis}
 use Rattle.grid_rows.specs.declared.planes.BitPlane.{BitPlane}
@@ -17,7 +16,7 @@ use Rattle.grid_rows.specs.RowNumbers.{upper_half}
 use Rattle.edge_middles.specs.WhatIsThere.{cubes_around, has_cube_at, is_kept_around, is_kept_at}
 use Rattle.layer_scan.specs.GridPlanes.{AreRowsOf, IsKeptUpright, after_first}
 use Rattle.layer_scan.proofs.GridCubes.{told_around, turned}
-use Rattle.layer_scan.proofs.GridSlices.{axes_between}
+use Rattle.iso_model.proofs.CellCounts.{axes_between}
 
 -- ---- two places along an axis, and all along the others
 

@@ -18,6 +18,7 @@ use Rattle.grid_rows.specs.RowNumbers.{sample_row, sample_rows}
 use Rattle.layer_scan.specs.GridPlanes.{AreRowsOf, HasSignsOfSlice, after_first, slice_of}
 use Rattle.layer_scan.specs.SlicePlanes.{AreSampleBits, samples_of}
 use Rattle.layer_scan.proofs.SliceRows.{long_range, row_inside}
+use Rattle.iso_model.proofs.CellCounts.{axes_between}
 
 -- ---- an element of a part of a list
 
@@ -93,9 +94,6 @@ all_slices rows (a ∷ b ∷ c ∷ d ∷ []) few most is =
     let turned : product (a ∷ b ∷ c ∷ d ∷ []) ≡ d * (b * c * a) = omega arith in
     turned ∙ sym (all_in rows b c a d (ap (λ (m : MiddleAxis). m.samples) is.second) (ap (λ (m : MiddleAxis). m.samples) is.third) is.first)
 all_slices rows (a ∷ b ∷ c ∷ d ∷ e ∷ more) few most is = absurd (omega (arith, most))
-
-pub axes_between : (d : ℕ) → IsDimension d → (2 ≤ d) × (d ≤ 4)
-axes_between d is = (omega (arith, is), omega (arith, is))
 
 -- what a plane tells of the samples of slice s, row by row, it tells of the samples of the grid
 pub told_of_slice : (v : Volume) (rows : GridRows) (s : ℕ) (passes : ℤ → Bool) (plane : BitPlane) → IsRegularVolume v → AreRowsOf v.sizes rows

@@ -7,14 +7,13 @@ use Rattle.std.specs.Prelude.{Bool, List, [], ◌∷◌, drop, false, true, leng
 use Rattle.std.specs.Prelude.{◌&&◌, ◌||◌, ◌%◌, ◌*◌, ◌+◌, ◌-◌, ◌/◌, ◌<◌, ◌≤◌, ◌≡◌, ◌≢◌, ◌⊎◌}
 use Rattle.lists.specs.Orders.{same_list}
 use Rattle.lists.proofs.MemberLaws.{lists_equal}
-use Rattle.lists.proofs.Tests.{and_left, and_right, equal_of, lt_of, of_lt, or_false, same_tests}
+use Rattle.lists.proofs.Tests.{and_left, and_right, equal_of, lt_of, of_lt, or_false, same_tests, not_below}
 use Rattle.iso_model.specs.declared.Kind.TheVariants.{Pyramid}
 use Rattle.iso_model.specs.Cells.{HasDimension}
 use Rattle.iso_model.specs.Points.{comes_first}
 use Rattle.iso_model.specs.Splits.{cube_at}
 use Rattle.iso_model.specs.Values.{Volume}
 use Rattle.iso_model.proofs.DimensionLaws.{dimension_cases}
-use Rattle.bit_rows.proofs.SetBelow.{not_below}
 use Rattle.edge_middles.specs.GridMiddles.{count_before, is_there}
 use Rattle.edge_middles.specs.Middles.{is_middle}
 use Rattle.edge_middles.specs.RowLists.{row_at}
@@ -26,7 +25,7 @@ use Rattle.edge_middles.proofs.PointsThere.{stands, to_kept}
 use Rattle.edge_middles.proofs.RowCounts.{counts_between}
 use Rattle.edge_middles.proofs.RowLists.{parity_at, parity_there}
 use Rattle.layer_scan.specs.GridEdges.{first_at}
-use Rattle.layer_scan.proofs.GridSlices.{axes_between}
+use Rattle.iso_model.proofs.CellCounts.{axes_between}
 
 -- ---- the first point at a height
 

@@ -4,11 +4,10 @@ use Rattle.std.proofs.lemmas.Bool.{cases_lt}
 use Rattle.std.proofs.Math.Bool.{and-false}
 use Rattle.std.specs.Prelude.{Bool, List, [], ◌∷◌, false, length, nat_lt, slice_index, true}
 use Rattle.std.specs.Prelude.{ℕ, ◌&&◌, ◌||◌, ◌*◌, ◌+◌, ◌-◌, ◌/◌, ◌<◌, ◌≤◌, ◌≡◌}
-use Rattle.lists.proofs.Tests.{next_below, or_false}
+use Rattle.lists.proofs.Tests.{next_below, or_false, not_below}
 use Rattle.iso_model.specs.Values.{Volume}
 use Rattle.iso_model.proofs.DimensionLaws.{dimension_cases}
 use Rattle.bit_rows.specs.Rows.{row_bit}
-use Rattle.bit_rows.proofs.SetBelow.{not_below}
 use Rattle.grid_rows.specs.declared.grids.GridRows.{GridRows}
 use Rattle.grid_rows.specs.declared.planes.BitPlane.{BitPlane}
 use Rattle.grid_rows.specs.Planes.{bit_row}
@@ -18,7 +17,7 @@ use Rattle.layer_scan.specs.GridPlanes.{IsKeptAtLast, IsKeptAtSlice, TellsBelow,
 use Rattle.layer_scan.specs.ScanPlanes.{HasClearBorder}
 use Rattle.layer_scan.proofs.GridCubes.{told_around}
 use Rattle.layer_scan.proofs.GridKept.{around_at, level, none_past_second, none_past_third}
-use Rattle.layer_scan.proofs.GridSlices.{axes_between}
+use Rattle.iso_model.proofs.CellCounts.{axes_between}
 
 slice_level : (v : Volume) (axes s x p q : ℕ)
     → level v axes (4 * s) x p q ≡ (is_kept_at v (x ∷ after_first axes p q (s - 1)) || is_kept_at v (x ∷ after_first axes p q s))

@@ -12,7 +12,7 @@ use Rattle.std.specs.Prelude.{ℤ, ◌&&◌, ◌||◌, ◌%◌, ◌*◌, ◌+◌
 use Rattle.lists.specs.Members.{In}
 use Rattle.lists.specs.Orders.{numbers}
 use Rattle.lists.proofs.MemberLaws.{In-map, In-numbers, all_In, all_from, from_In-map, from_In-numbers}
-use Rattle.lists.proofs.Tests.{and_left, and_right, lt_of, next_below, of_lt, same_tests}
+use Rattle.lists.proofs.Tests.{and_left, and_right, lt_of, next_below, of_lt, same_tests, not_below}
 use Rattle.iso_model.specs.Cells.{HasDimension}
 use Rattle.iso_model.specs.Dimensions.{IsDimension, in_each_dimension}
 use Rattle.iso_model.specs.Points.{point}
@@ -21,7 +21,6 @@ use Rattle.iso_model.specs.Values.{Volume, cube_samples, sample_at, without_blan
 use Rattle.iso_model.proofs.DimensionLaws.{dimension_cases}
 use Rattle.bit_rows.specs.Rows.{row_bit}
 use Rattle.bit_rows.specs.SampleRows.{is_clear}
-use Rattle.bit_rows.proofs.SetBelow.{not_below}
 use Rattle.grid_rows.specs.declared.grids.GridRows.{GridRows}
 use Rattle.grid_rows.specs.declared.grids.MiddleAxis.{MiddleAxis}
 use Rattle.grid_rows.specs.declared.planes.BitPlane.{BitPlane}
@@ -34,8 +33,8 @@ use Rattle.layer_scan.specs.FlaggedCubes.{flag_at, flags_of}
 use Rattle.layer_scan.specs.GridPlanes.{AreRowsOf, TellsKept, after_first}
 use Rattle.layer_scan.specs.GridStates.{AreFlagsOf, KeepsClear, TellsClear}
 use Rattle.layer_scan.specs.ScanPlanes.{HasBitsBelow, HasClearBorder}
-use Rattle.layer_scan.proofs.GridSlices.{axes_between}
 use Rattle.layer_scan.proofs.SliceRows.{long_range, row_inside}
+use Rattle.iso_model.proofs.CellCounts.{axes_between}
 
 -- ---- a cube without a blank sample
 
@@ -80,10 +79,6 @@ record HasClearCorners (v : Volume) (blank : Option ℤ) (second third x i j s a
 pub side_low : (step q : ℕ) → step ≤ 1 → IsSide step q → q < 2
 side_low step q few (inl e) = omega (arith, e)
 side_low step q few (inr e) = omega (arith, e, few)
-
-none_aside : (q : ℕ) → IsSide 0 q → q ≡ 0
-none_aside q (inl e) = e
-none_aside q (inr e) = e
 
 module _ (v : Volume) (blank : Option ℤ) (x i j s : ℕ) where
   abbrev clear_at : List ℕ → Bool

@@ -15,8 +15,8 @@ use Rattle.edge_middles.proofs.PointsThere.{along_axis}
 use Rattle.layer_scan.specs.Corners.{every_corner, some_corner, some_of_four}
 use Rattle.layer_scan.specs.CubePlanes.{corner_rows}
 use Rattle.layer_scan.specs.GridPlanes.{AreRowsOf, IsPlainUnlessMixed, TellsSigns, after_first}
-use Rattle.layer_scan.proofs.GridSlices.{axes_between}
 use Rattle.layer_scan.proofs.KeptCubes.{IsSide, SliceSet, all_set, side_low}
+use Rattle.iso_model.proofs.CellCounts.{axes_between}
 
 -- ---- the bits at the corners of a cube are all clear
 

@@ -5,8 +5,7 @@ use Rattle.std.proofs.lemmas.Bool.{cases_lt}
 use Rattle.std.proofs.lemmas.Nat.{div-mul-add, mod-mul-add, same_from_place}
 use Rattle.std.specs.Prelude.{All, List, [], ◌∷◌, drop, length, suc, zero, ℕ, if◌then◌else◌, nat_lt, true, false}
 use Rattle.std.specs.Prelude.{◌%◌, ◌*◌, ◌+◌, ◌-◌, ◌/◌, ◌<◌, ◌≤◌, ◌≡◌, ◌⊎◌}
-use Rattle.lists.proofs.Tests.{of_lt}
-use Rattle.bit_rows.proofs.SetBelow.{not_below}
+use Rattle.lists.proofs.Tests.{of_lt, not_below}
 use Rattle.grid_rows.specs.declared.grids.GridRows.{GridRows}
 use Rattle.grid_rows.specs.declared.grids.MiddleAxis.{MiddleAxis}
 use Rattle.grid_rows.specs.MiddleAxes.{edge_span}

@@ -38,9 +38,6 @@ new_empty rows words plane clear n x h =
     let row = empty_rows plane.bits.items 0 rows words n clear.1 h in
     ap (λ w. row_bit (slice_range plane.bits.items (n * w) (n * w + w)) x) clear.0 ∙ ap (λ r. row_bit r x) row.1 ∙ empty_row words x
 
-pub new_plane : (rows words : ℕ) (plane : BitPlane) → IsClear rows words plane → IsNewPlane rows words plane
-new_plane rows words plane clear = ((clear.0, ap length clear.1 ∙ length-replicate (rows * words) 0), new_empty rows words plane clear)
-
 pub empty_below : (rows place : ℕ) (plane : BitPlane) → HasNoBit rows plane → HasBitsBelow rows place plane
 empty_below rows place plane none n x h is = absurd (false≢true (sym (none n x h) ∙ is))
 

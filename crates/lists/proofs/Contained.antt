@@ -8,7 +8,7 @@ use Rattle.std.specs.Bool.{Decides}
 use Rattle.std.specs.List.{list_all, list_any}
 use Rattle.std.specs.Prelude.{All, Contains, filter, flat_map, if◌then◌else◌, map, nat_le, slice_index_or, suc, zero, ◌+◌, ◌⊎◌}
 use Rattle.lists.specs.Orders.{numbers, put_in, sorted, without}
-use Rattle.std.proofs.lemmas.List.Elements.{Contains-append_left, Contains-append_right}
+use Rattle.std.proofs.lemmas.List.Elements.{Contains-append_left, Contains-append_right, All-append}
 
 pub none_contained : {X : Type 0} (x : X) → Contains [] x → ⊥
 none_contained x c = let h : c.0 < 0 = c.1 in omega arith
@@ -141,3 +141,8 @@ filter-same p q [] same = refl
 filter-same {X} p q (x ∷ xs) same =
     ap (λ (b : Bool). if b then x ∷ filter p xs else filter p xs) (same x (Contains-head x xs))
     ∙ ap (λ (ys : List X). if q x then x ∷ ys else ys) (filter-same p q xs (λ y c. same y (Contains-tail y x xs c)))
+
+-- what holds of all members of each list holds of those of all lists together
+pub All-flat_map : {X Y : Type 0} (P : Y → Type 0) (f : X → List Y) (xs : List X) → ((x : X) → Contains xs x → All P (f x)) → All P (flat_map f xs)
+All-flat_map P f [] h = λ k d l. absurd (omega (arith, l))
+All-flat_map P f (x ∷ xs) h = All-append P (f x) (flat_map f xs) (h x (Contains-head x xs)) (All-flat_map P f xs (λ y c. h y (Contains-tail y x xs c)))

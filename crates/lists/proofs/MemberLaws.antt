@@ -273,3 +273,8 @@ by_three P h xs e = subst P (sym (list_of_three xs e)) (h (get_or xs 0 (pos 0)) 
 
 pub by_four : (P : List ℤ → Type 0) → ((a b c d : ℤ) → P (a ∷ b ∷ c ∷ d ∷ [])) → (xs : List ℤ) → length xs ≡ 4 → P xs
 by_four P h xs e = subst P (sym (list_of_four xs e)) (h (get_or xs 0 (pos 0)) (get_or xs 1 (pos 0)) (get_or xs 2 (pos 0)) (get_or xs 3 (pos 0)))
+
+-- where none passes, the test of any fails
+pub any_none : {X : Type 0} (p : X → Bool) (xs : List X) → ((x : X) → p x ≡ false) → list_any p xs ≡ false
+any_none p [] h = refl
+any_none p (x ∷ xs) h = ap (λ b. b || list_any p xs) (h x) ∙ any_none p xs h

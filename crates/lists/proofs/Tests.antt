@@ -1,6 +1,6 @@
 -- Tests, and numbers that are compared by tests.
 use Rattle.std.proofs.Common.{Bool, arith, false, inl, inr, not, refl, sym, true, ℕ, ◌&&◌, ◌<◌, ◌==◌, ◌||◌, ◌∙◌, ◌≡◌, ◌*◌, ◌≤◌}
-use Rattle.std.proofs.lemmas.Bool.{cases_eq, eq-eqb, ne_eqb}
+use Rattle.std.proofs.lemmas.Bool.{cases_eq, eq-eqb, ne_eqb, false≢true}
 use Rattle.std.proofs.lemmas.Bool.Decides.{nat_tests}
 use Rattle.std.specs.Bool.{Decides}
 use Rattle.std.specs.Prelude.{if◌then◌else◌, nat_eq, nat_lt, ◌≢◌, suc, ◌+◌}
@@ -103,3 +103,7 @@ next_below x n m p h k = let more : n * (m + 1) ≤ n * p = mul-le-mul_left n (o
 pub chosen_below : (n a b : ℕ) (t : Bool) → a < n → b < n → (if t then a else b) < n
 chosen_below n a b true p q = p
 chosen_below n a b false p q = q
+
+-- a number is not below one that it reaches
+pub not_below : (k p : ℕ) → p ≤ k → nat_lt k p ≡ false
+not_below k p h = same_tests (nat_lt k p) false (λ e. let lt = lt_of k p e in absurd (omega arith)) (λ e. absurd (false≢true e))

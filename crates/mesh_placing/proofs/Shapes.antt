@@ -19,12 +19,8 @@ use Rattle.mesh_placing.specs.Placing.{ListsEdges, FitsGrid}
 use Rattle.mesh_placing.proofs.FilledLists.{filter_all}
 use Rattle.mesh_placing.proofs.CellEdges.{bipolar_edge-listed, bipolar_edges-crossed, place_below}
 use Rattle.mesh_placing.proofs.PlacedTuples.{bipolar_tuples, All-placed_tuple}
-use Rattle.lists.proofs.Contained.{Contains-head, Contains-tail}
+use Rattle.lists.proofs.Contained.{Contains-head, Contains-tail, All-flat_map}
 use Rattle.iso_model.proofs.SignLaws.{length-placed}
-
-All-flat_map : {X Y : Type 0} (P : Y → Type 0) (f : X → List Y) (xs : List X) → ((x : X) → Contains xs x → All P (f x)) → All P (flat_map f xs)
-All-flat_map P f [] h = λ k d l. absurd (omega (arith, l))
-All-flat_map P f (x ∷ xs) h = All-append P (f x) (flat_map f xs) (h x (Contains-head x xs)) (All-flat_map P f xs (λ y c. h y (Contains-tail y x xs c)))
 
 -- each cell of a grid without blank samples is kept
 pub cells-all : (kind : Kind) (g : Grid) (iso : ℤ) → cells (volume kind g iso None) ≡ numbers (cell_count kind g.sizes)

@@ -9,10 +9,6 @@ use Rattle.lists.specs.Members.{In}
 use Rattle.lists.proofs.Tests.{or_false}
 use Rattle.lists.proofs.MemberLaws.{list_any-map}
 
-pub any_false : {X : Type 0} (p : X → Bool) (xs : List X) → ((x : X) → p x ≡ false) → list_any p xs ≡ false
-any_false p [] h = refl
-any_false p (x ∷ xs) h = ap (λ b. b || list_any p xs) (h x) ∙ any_false p xs h
-
 pub any_same : {X : Type 0} (p q : X → Bool) (xs : List X) → ((x : X) → p x ≡ q x) → list_any p xs ≡ list_any q xs
 any_same p q [] h = refl
 any_same p q (x ∷ xs) h = ap (λ b. b || list_any p xs) (h x) ∙ ap (λ b. q x || b) (any_same p q xs h)

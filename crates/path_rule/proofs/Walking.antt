@@ -7,10 +7,10 @@ use Rattle.iso_model.specs.declared.Kind.{Kind}
 use Rattle.lists.specs.Orders.{has, orders_of}
 use Rattle.iso_model.specs.Acceptance.{goes_on}
 use Rattle.path_rule.specs.PathRule.{HasFace, IsNext, SharesByTwo}
-use Rattle.path_rule.proofs.Orders.{any_false, any_same, orders_suc, picks_none, picks_only}
+use Rattle.path_rule.proofs.Orders.{any_same, orders_suc, picks_none, picks_only}
 use Rattle.path_rule.proofs.Triangles.{others, goes_lacks, goes_first, goes_second, IsFound, found_third, has_third, one_of_two}
 use Rattle.lists.specs.Members.{In}
-use Rattle.lists.proofs.MemberLaws.{In-append_left, In-append_right, In_of_has, has_of_In}
+use Rattle.lists.proofs.MemberLaws.{In-append_left, In-append_right, In_of_has, has_of_In, any_none}
 use Rattle.std.proofs.lemmas.Option.{same_Some}
 
 -- ---- lists in which no number stands twice
@@ -73,7 +73,7 @@ pub leads_stuck : (kind : Kind) (e f x n : ℕ) (ws : List (List ℕ)) (is : Lis
 leads_stuck kind e f x n ws is lacks =
     orders_suc (goes_on kind 3 e f x) n (map (pair_at e ws) is)
     ∙ picks_none (pair_at e ws) (λ (p : List ℕ × List (List ℕ)). list_any (λ r. goes_on kind 3 e f x (p.0 ∷ r)) (orders_of n p.1)) is
-    (λ i m rest. any_false (λ r. goes_on kind 3 e f x (pair_at e ws i ∷ r)) (orders_of n rest) (λ r. goes_lacks kind 3 e f x (pair_at e ws i) r (lacks i m)))
+    (λ i m rest. any_none (λ r. goes_on kind 3 e f x (pair_at e ws i ∷ r)) (orders_of n rest) (λ r. goes_lacks kind 3 e f x (pair_at e ws i) r (lacks i m)))
 
 pub leads_step : (kind : Kind) (e f x q n : ℕ) (ws : List (List ℕ)) (front : List ℕ) (t : ℕ) (back : List ℕ) → x ≢ q
     → (pair_at e ws t ≡ x ∷ q ∷ []) ⊎ (pair_at e ws t ≡ q ∷ x ∷ []) → ((i : ℕ) → In i (front ++ back) → has (pair_at e ws i) x ≡ false)
@@ -85,7 +85,7 @@ leads_step kind e f x q n ws front t back ne pair lacks =
     ∙ any_same (λ r. goes_on kind 3 e f x (pair_at e ws t ∷ r)) (goes_on kind 3 e f q) (orders_of n (map (pair_at e ws) (front ++ back))) (passes pair)
   where
     fails : (i : ℕ) → In i (front ++ back) → (rest : List (List ℕ)) → list_any (λ r. goes_on kind 3 e f x (pair_at e ws i ∷ r)) (orders_of n rest) ≡ false
-    fails i m rest = any_false (λ r. goes_on kind 3 e f x (pair_at e ws i ∷ r)) (orders_of n rest) (λ r. goes_lacks kind 3 e f x (pair_at e ws i) r (lacks i m))
+    fails i m rest = any_none (λ r. goes_on kind 3 e f x (pair_at e ws i ∷ r)) (orders_of n rest) (λ r. goes_lacks kind 3 e f x (pair_at e ws i) r (lacks i m))
 
     passes : (pair_at e ws t ≡ x ∷ q ∷ []) ⊎ (pair_at e ws t ≡ q ∷ x ∷ []) → (r : List (List ℕ))
         → goes_on kind 3 e f x (pair_at e ws t ∷ r) ≡ goes_on kind 3 e f q r

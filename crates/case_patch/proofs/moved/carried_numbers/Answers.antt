@@ -3,17 +3,17 @@ use Rattle.iso_model.specs.declared.Kind.{Kind}
 use Rattle.iso_model.specs.declared.Kind.TheVariants.{Cube}
 use Rattle.iso_model.specs.Entries.{label_edges, label_corners}
 use Rattle.iso_model.specs.Moves.{Move}
-use Rattle.cube_moves.proofs.OrderChecks.{few_axes}
 use Rattle.case_patch.specs.MovedPoints.{carried_among, AreCarriedNumbers}
 use Rattle.case_patch.proofs.CubeLabels.{cube_label, cube_edges_below, cube_corners_below, few_of}
 use Rattle.case_patch.proofs.LabelPoints.{points_length}
 use Rattle.lists.specs.Orders.{numbers}
 use Rattle.std.proofs.lemmas.Result.{IfOk-weaker}
 use Rattle.case_patch.proofs.moved.carried_numbers.Goals as goal
+use Rattle.iso_model.proofs.CellCounts.{axes_between}
 
 pub move_label-other-requires : goal.move_label-other-requires
 move_label-other-requires g c =
-    let few = few_axes g.row.D g.met.C.Cell.is_dimension in (
+    let few = axes_between g.row.D g.met.C.Cell.is_dimension in (
       omega arith,
       (
         g.met.C.Cell.is_dimension,
@@ -23,7 +23,7 @@ move_label-other-requires g c =
 
 pub numbers_among-requires : goal.numbers_among-requires
 numbers_among-requires g c =
-    let few = few_axes g.row.D g.met.C.Cell.is_dimension in
+    let few = axes_between g.row.D g.met.C.Cell.is_dimension in
     let edges : c.deref.result.now ≡ label_edges g.C.Cell.KIND g.row.D c.args.label = c.deref.ensures.value ∙ c.in_ok-edges.ensures in
     let corners : c.deref-2.result.now ≡ label_corners g.C.Cell.KIND g.row.D c.args.label = c.deref-2.ensures.value ∙ c.in_ok-corners.ensures in
     let to_edges : c.deref-3.result.now ≡ label_edges g.C.Cell.KIND g.row.D c.move_label-other.result = c.deref-3.ensures.value ∙ c.in_ok-to_edges.ensures in

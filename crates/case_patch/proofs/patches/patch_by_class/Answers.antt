@@ -3,14 +3,14 @@ use Rattle.iso_model.specs.Entries.{label_points}
 use Rattle.iso_model.specs.Moves.{Move}
 use Rattle.halfspace.specs.Choices.{AreFacetNumbers}
 use Rattle.cube_moves.proofs.InverseMoves.{undone, undone_is, carried_once}
-use Rattle.cube_moves.proofs.OrderChecks.{few_axes}
 use Rattle.case_patch.proofs.Narrow.{bytes_fit}
 use Rattle.case_patch.proofs.patches.patch_by_class.Goals as goal
+use Rattle.iso_model.proofs.CellCounts.{axes_between}
 
 pub patch_moved-requires : goal.patch_moved-requires
 patch_moved-requires g c =
     let is = g.met.C.Cell.is_dimension in
-    let few = few_axes g.row.D is in
+    let few = axes_between g.row.D is in
     let by : Move = record { axes = c.least_label-class.result.1.axes; flips = c.least_label-class.result.1.flips } in
     let least = c.least_label-class.ensures in (
       omega arith,

@@ -7,7 +7,6 @@ use Rattle.iso_model.specs.Entries.{label_points}
 use Rattle.iso_model.specs.Moves.{Move}
 use Rattle.halfspace.specs.Choices.{AreFacetNumbers}
 use Rattle.cube_moves.proofs.InverseMoves.{undone, undone_is}
-use Rattle.cube_moves.proofs.OrderChecks.{few_axes}
 use Rattle.case_patch.specs.FacetLists.{AreAllFacets}
 use Rattle.case_patch.specs.MovedPoints.{carried_point, carried_by}
 use Rattle.case_patch.proofs.CarriedFacets.{class_facets, numbers_small}
@@ -16,12 +15,13 @@ use Rattle.case_patch.proofs.LabelPoints.{few_points, points_length}
 use Rattle.case_patch.proofs.Narrow.{bytes_fit}
 use Rattle.lists.specs.Orders.{numbers}
 use Rattle.case_patch.proofs.patches.patch_moved.Goals as goal
+use Rattle.iso_model.proofs.CellCounts.{axes_between}
 
 pub carried_sets-requires-clause-members : goal.carried_sets-requires-clause-members
 carried_sets-requires-clause-members g c =
     let by : Move = record { axes = c.args.by.now.axes; flips = c.args.by.now.flips } in
     let is = g.met.C.Cell.is_dimension in
-    let has : HasDimension Cube g.row.D = few_axes g.row.D is in
+    let has : HasDimension Cube g.row.D = axes_between g.row.D is in
     let other = c.in_ok-numbers.ensures.other in
     numbers_small g.row.D is by (undone g.row.D by) (undone_is g.row.D is by c.requires.is_move) c.args.label other
     (cube_label g.C.Cell.KIND g.row.D g.C.Cell.CORNERS c.args.label c.requires.kind g.met.C.Cell.corners c.requires.label) c.in_ok-numbers.ensures.carries 64
@@ -31,7 +31,7 @@ carried_sets-requires-clause-members g c =
 pub carried_sets-requires-clause-few : goal.carried_sets-requires-clause-few
 carried_sets-requires-clause-few g c =
     let by : Move = record { axes = c.args.by.now.axes; flips = c.args.by.now.flips } in
-    let has : HasDimension Cube g.row.D = few_axes g.row.D g.met.C.Cell.is_dimension in
+    let has : HasDimension Cube g.row.D = axes_between g.row.D g.met.C.Cell.is_dimension in
     let list : c.deref.result.now ≡ map (carried_point g.row.D by c.args.label c.in_ok-numbers.ensures.other)
     (numbers (length (label_points Cube g.row.D c.args.label))) =
     c.deref.ensures.value ∙ c.in_ok-numbers.ensures.numbered in

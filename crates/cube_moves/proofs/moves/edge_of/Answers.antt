@@ -5,10 +5,10 @@ use Rattle.cell_lattice.specs.CellLemmas.{found_by_ends}
 use Rattle.cell_lattice.specs.Agreement.{agree_in_each}
 use Rattle.cube_moves.specs.declared.moves.TheConstants.{BETWEEN}
 use Rattle.cube_moves.proofs.MovedEdges.{edge_step}
-use Rattle.cube_moves.proofs.OrderChecks.{few_axes}
 use Rattle.cube_moves.proofs.ExchangeChecks.{few_flips}
 use Rattle.iso_model.specs.Dimensions.{IsDimension}
 use Rattle.cube_moves.proofs.moves.edge_of.Goals as goal
+use Rattle.iso_model.proofs.CellCounts.{axes_between}
 
 -- the numbers as the code has them
 abbrev written : ℕ → ℕ → ℕ
@@ -34,7 +34,7 @@ bounds-second g c =
 
 pub returns-clause-value : goal.returns-clause-value
 returns-clause-value g c =
-    let has : HasDimension Cube g.row.D = few_axes g.row.D c.requires.dimension in
+    let has : HasDimension Cube g.row.D = axes_between g.row.D c.requires.dimension in
     let e = c.requires.joined.0 in
     let ends = c.requires.joined.2 in
     ap (λ (p : ℕ × ℕ). written p.0 p.1) (sym ends) ∙ found g.row.D c.requires.dimension e c.requires.joined.1

@@ -3,8 +3,9 @@ use Rattle.std.proofs.Common.{ℕ, ◌≡◌, ◌<◌, ◌≤◌, ◌*◌, ◌+�
 use Rattle.std.proofs.Math.Nat.{mod-eq_of_lt, pow-le-pow_right}
 use Rattle.iso_model.specs.Moves.{Move}
 use Rattle.cube_moves.proofs.MovedBits.{digits, digits-more, digits-below, moved_digit, digit-lt}
-use Rattle.cube_moves.proofs.OrderChecks.{axis-below, few_axes}
+use Rattle.cube_moves.proofs.OrderChecks.{axis-below}
 use Rattle.cube_moves.proofs.moves.move_corner.Goals as goal
+use Rattle.iso_model.proofs.CellCounts.{axes_between}
 
 -- one bit more, shifted to its place, where it fits
 one_more : (b m n : ℕ) → b < 2 → n < 4 → m < 2 ^ n → (b * 2 ^ n % 256 ≡ b * 2 ^ n) × (m + b * 2 ^ n < 256)
@@ -21,14 +22,14 @@ one_more b m n small few below =
 
 pub moved_bit-requires : goal.moved_bit-requires
 moved_bit-requires g c =
-    let few = few_axes g.row.D c.requires.dimension in
+    let few = axes_between g.row.D c.requires.dimension in
     let a = axis-below g.row.D c.requires.dimension c.args.by.now.axes c.requires.is_move.0 c.loop-axis.axis (omega arith) in
     (omega arith, (omega arith, (omega arith, omega arith)))
 
 pub overflow_add-moved : goal.overflow_add-moved
 overflow_add-moved g c =
     let by : Move = record { axes = c.args.by.now.axes; flips = c.args.by.now.flips } in
-    let few = few_axes g.row.D c.requires.dimension in
+    let few = axes_between g.row.D c.requires.dimension in
     let b = digits-below (moved_digit by c.args.corner) (digit-lt by c.args.corner) c.loop-axis.axis in
     let m = one_more c.moved_bit.result c.loop-axis.moved c.loop-axis.axis (omega arith) (omega arith) (omega arith) in
     omega (arith, m.0, m.1)
@@ -36,7 +37,7 @@ overflow_add-moved g c =
 pub loop-axis-preserved : goal.loop-axis-preserved
 loop-axis-preserved g c =
     let by : Move = record { axes = c.args.by.now.axes; flips = c.args.by.now.flips } in
-    let few = few_axes g.row.D c.requires.dimension in
+    let few = axes_between g.row.D c.requires.dimension in
     let b = digits-below (moved_digit by c.args.corner) (digit-lt by c.args.corner) c.loop-axis.axis in
     let m = one_more c.moved_bit.result c.loop-axis.moved c.loop-axis.axis (omega arith) (omega arith) (omega arith) in
     let next : c.loop-axis.axis + 1 ≡ suc c.loop-axis.axis = omega arith in

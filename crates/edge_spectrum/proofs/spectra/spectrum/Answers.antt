@@ -5,8 +5,9 @@ use Rattle.iso_model.specs.Cells.{HasDimension}
 use Rattle.edge_spectrum.specs.Growing.{Grows, IsNew}
 use Rattle.edge_spectrum.specs.Spectrum.{edges_at, isovalues}
 use Rattle.edge_spectrum.proofs.AllCounted.{counted_all}
-use Rattle.edge_spectrum.proofs.StepSums.{IfOk-weaker, small_fits}
+use Rattle.edge_spectrum.proofs.StepSums.{small_fits}
 use Rattle.edge_spectrum.proofs.spectra.spectrum.Goals as goal
+use Rattle.std.proofs.lemmas.Result.{IfOk-weaker}
 
 pub returns : goal.returns
 returns g c =

@@ -1,11 +1,12 @@
 use Rattle.std.proofs.Common.{rules, ◌≡◌, ◌≤◌, length, refl}
-use Rattle.iso_cli.proofs.Demonstrating.{all_distinct, axes_limits, demonstrated, few_samples, grid_axes}
+use Rattle.iso_cli.proofs.Demonstrating.{all_distinct, demonstrated, few_samples, grid_axes}
 use Rattle.iso_cli.proofs.demo.counts_by.Goals as goal
+use Rattle.iso_model.proofs.CellCounts.{axes_between}
 
 pub make_grid-requires : goal.make_grid-requires
 make_grid-requires g c =
     let is = g.met.C.Cell.is_dimension in
-    let limits = axes_limits g.row.D is in
+    let limits = axes_between g.row.D is in
     let few = few_samples g.row.D c.args.size is c.requires.few in
     search (rules, limits.0, limits.1, c.requires.sized, few)
 

@@ -4,8 +4,9 @@ use Rattle.std.proofs.lemmas.List.{length-set}
 use Rattle.iso_model.specs.Bipolar.{differ}
 use Rattle.edge_spectrum.specs.Growing.{count_at, one_if}
 use Rattle.edge_spectrum.specs.Spectrum.{iso_after}
-use Rattle.edge_spectrum.proofs.StepSums.{added, any_item, small_fits}
+use Rattle.edge_spectrum.proofs.StepSums.{added, small_fits}
 use Rattle.edge_spectrum.proofs.differences.Differences.add.Goals as goal
+use Rattle.std.proofs.lemmas.Grind.{get_or_default_zero}
 
 pub returns : goal.returns
 returns c =
@@ -21,9 +22,9 @@ returns c =
     let within : o < length old = omega (arith, c.reached-other_reached.ensures.within, long) in
     let low_in : low < length old = omega (arith, c.min-low.ensures, inside, within) in
     let high_in : high < length (set old low v) = omega (arith, c.max-high.ensures, inside, within, length-set old low v) in
-    let first : v ≡ (get_or old low 0 + 1) % 2 ^ 64 = ap (λ n. (n + 1) % 2 ^ 64) (c.index.ensures ∙ any_item old low c.index.result.now low_in) in
+    let first : v ≡ (get_or old low 0 + 1) % 2 ^ 64 = ap (λ n. (n + 1) % 2 ^ 64) (c.index.ensures ∙ get_or_default_zero old low c.index.result.now low_in) in
     let second : w ≡ (get_or (set old low v) high 0 + 18446744073709551615) % 2 ^ 64 =
-    ap (λ n. (n + 18446744073709551615) % 2 ^ 64) (c.index-2.ensures ∙ any_item (set old low v) high c.index-2.result.now high_in) in
+    ap (λ n. (n + 18446744073709551615) % 2 ^ 64) (c.index-2.ensures ∙ get_or_default_zero (set old low v) high c.index-2.result.now high_in) in
     record {
       sound = record {
         few = c.requires.sound.few;
