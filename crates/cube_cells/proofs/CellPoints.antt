@@ -54,14 +54,14 @@ edge_is kind sizes d per number rank e ends place first second from to long coun
 
 -- ---- labels
 
-not_centre : (o : List ℕ) (m : ℕ) → slice_index o 0 % 2 ≡ 0 → (if slice_index o 0 == 1 then 8 else m) ≡ m
+pub not_centre : (o : List ℕ) (m : ℕ) → slice_index o 0 % 2 ≡ 0 → (if slice_index o 0 == 1 then 8 else m) ≡ m
 not_centre o m even = go (slice_index o 0 == 1) refl
   where
     go : (b : Bool) → (slice_index o 0 == 1) ≡ b → (if b then 8 else m) ≡ m
     go true e = let one : slice_index o 0 ≡ 1 = eqb-true (slice_index o 0) 1 e in absurd (omega (arith, one, even))
     go false e = refl
 
-is_centre : (o : List ℕ) (m : ℕ) → slice_index o 0 ≡ 1 → (if slice_index o 0 == 1 then 8 else m) ≡ 8
+pub is_centre : (o : List ℕ) (m : ℕ) → slice_index o 0 ≡ 1 → (if slice_index o 0 == 1 then 8 else m) ≡ 8
 is_centre o m one = rw one refl
 
 pub sign_of : (signs point d : ℕ) (o offset : List ℕ) (set : Bool) → set ≡ is_set signs point → point ≡ point_number d o → o ≡ offset

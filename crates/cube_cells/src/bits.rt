@@ -11,8 +11,8 @@ pub(crate) fn is_set(number: u32, bit: u8) -> bool
     (number >> bit) & 1 == 1
 }
 
-// A number of the bits below this one, with this one.
-pub(crate) fn with_bit(number: u32, bit: u8, set: bool) -> u32
+/// A number of the bits below this one, with this one.
+pub fn with_bit(number: u32, bit: u8, set: bool) -> u32
     requires bit { bit < 16 }
     requires below { number < 2 ^ bit }
     ensures { result ≡ number + (if set then 2 ^ bit else 0) }

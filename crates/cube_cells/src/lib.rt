@@ -13,6 +13,8 @@ mod steps;
 #[cfg(test)]
 mod tests;
 
+pub use bits::with_bit;
 pub use cells::is_bipolar;
 pub use cubes::SignedCube;
+pub use points::point_number;
 pub use steps::CubeSteps;

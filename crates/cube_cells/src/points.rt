@@ -87,8 +87,8 @@ fn corner_sum(samples: &[i64], steps: &[u32], first: u32) -> i64
     sum
 }
 
-// The number of the point of a cube at this offset: that of a corner, and 8 for the centre.
-pub(crate) fn point_number<const D: usize>(offset: &[u8; D]) -> u8
+/// The number of the point of a cube at this offset: that of a corner, and 8 for the centre.
+pub fn point_number<const D: usize>(offset: &[u8; D]) -> u8
     requires { IsDimension D }
     ensures number { result ≡ number_of D offset.now }
     ensures few { result < 16 }

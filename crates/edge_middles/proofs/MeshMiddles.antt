@@ -179,13 +179,13 @@ module _ (v : Volume) where
 -- ---- the simplices of a mesh
 
 -- lists one after another in two steps
-flat_map_twice : {X Y Z : Type 0} (f : Y → List Z) (g : X → List Y) (xs : List X) → flat_map f (flat_map g xs) ≡ flat_map (λ x. flat_map f (g x)) xs
+pub flat_map_twice : {X Y Z : Type 0} (f : Y → List Z) (g : X → List Y) (xs : List X) → flat_map f (flat_map g xs) ≡ flat_map (λ x. flat_map f (g x)) xs
 flat_map_twice f g [] = refl
 flat_map_twice f g (x ∷ xs) =
     flat_map-append f (g x) (flat_map g xs) ∙ ap (λ zs. flat_map f (g x) ++ zs) (flat_map_twice f g xs)
 
 -- members that give the same, where those that do not pass give nothing
-passed_over : {X Y : Type 0} (f g : X → List Y) (p : X → Bool) (xs : List X) → ((x : X) → Contains xs x → p x ≡ true → f x ≡ g x)
+pub passed_over : {X Y : Type 0} (f g : X → List Y) (p : X → Bool) (xs : List X) → ((x : X) → Contains xs x → p x ≡ true → f x ≡ g x)
     → ((x : X) → Contains xs x → p x ≡ false → f x ≡ []) → flat_map f xs ≡ flat_map g (filter p xs)
 passed_over f g p [] same none = refl
 passed_over {X} {Y} f g p (x ∷ xs) same none =
