@@ -4,7 +4,7 @@ use Rattle.std.proofs.lemmas.Bool.{cases_lt, le-leb, leb-true}
 use Rattle.std.proofs.lemmas.List.Elements.{Contains-append_cases, Contains-append_left, Contains-append_right}
 use Rattle.std.proofs.lemmas.Nat.{div-add-mod', div-mul-add}
 use Rattle.std.proofs.Math.Nat.{add-mul-mod_self_left, mod-eq_of_lt, mod-lt, mul-le-mul_left, mul_comm}
-use Rattle.std.specs.Prelude.{Bool, Contains, List, [], ◌∷◌, ◌++◌, false, true, drop, flat_map, length, nat_le, nat_lt, slice_index, suc, zero, ℕ}
+use Rattle.std.specs.Prelude.{Bool, Contains, List, [], ◌∷◌, ◌++◌, false, true, drop, flat_map, length, nat_le, nat_lt, slice_index, suc, zero, ℕ, ◌==◌}
 use Rattle.std.specs.Prelude.{◌*◌, ◌+◌, ◌-◌, ◌/◌, ◌%◌, ◌<◌, ◌≤◌, ◌&&◌, ◌≡◌, ◌⊎◌, if◌then◌else◌}
 use Rattle.iso_model.specs.Cells.{HasDimension}
 use Rattle.iso_model.specs.Points.{comes_first}

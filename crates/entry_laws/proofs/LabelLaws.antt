@@ -6,11 +6,12 @@ use Rattle.lists.specs.Orders.{sorted}
 use Rattle.iso_model.specs.Cells.{edge_count, facet_count, edge_in_facet, label_count}
 use Rattle.iso_model.specs.Bipolar.{is_bipolar_in}
 use Rattle.iso_model.specs.Tables.{Table, IsTable, entry_of}
-use Rattle.iso_model.specs.Acceptance.{rule_edges, rule_inside, rule_faces, IsAccepted}
+use Rattle.iso_model.specs.Acceptance.{rule_edges, rule_inside, rule_faces, IsAccepted, IsAcceptedOver}
 use Rattle.mesh_laws.proofs.FaceSigns.{Part, has_signed}
 use Rattle.entry_laws.proofs.TupleLaws.{IsSound, tuple_of, sound_tuple, edge_covered, tuple_off_facet}
 use Rattle.entry_laws.proofs.EntryFaces.{face_inside, face_once, face_one_facet}
 use Rattle.lists.specs.Members.{In, Each}
+use Rattle.iso_model.specs.Seams.{Seam, seams}
 
 -- all edges lie in the facet
 abbrev pub AllIn : Kind → ℕ → ℕ → List ℕ → Type 0
@@ -34,10 +35,10 @@ pub record LabelLaws (kind : Kind) (d label : ℕ) (ws : List (List ℕ)) : Type
   pub one_facet : (w face : List ℕ) (f g : ℕ) → In w ws → Part face w → f < facet_count kind d → g < facet_count kind d → AllIn kind d f face
       → AllIn kind d g face → f ≡ g
 
--- the laws hold of the entry of each label of an accepted table
-pub label_laws : (t : Table) (label : ℕ) → IsTable t → IsAccepted t → label < label_count t.kind t.dimension
+-- the laws hold of the entry of each label of a table that is accepted over some seams, whichever they are
+pub label_laws_over : (ss : List Seam) (t : Table) (label : ℕ) → IsTable t → IsAcceptedOver ss t → label < label_count t.kind t.dimension
     → LabelLaws t.kind t.dimension label (entry_of t label)
-label_laws t label table accepted less =
+label_laws_over ss t label table accepted less =
     let kind = t.kind in
     let d = t.dimension in
     let ws = entry_of t label in
@@ -53,3 +54,8 @@ label_laws t label table accepted less =
       once = λ w face f i. face_once kind d ws w face f faces i (sound w i).distinct;
       one_facet = λ w face f g i. face_one_facet kind d ws w face f g faces i (sound w i).distinct;
     }
+
+-- and so of an accepted table
+pub label_laws : (t : Table) (label : ℕ) → IsTable t → IsAccepted t → label < label_count t.kind t.dimension
+    → LabelLaws t.kind t.dimension label (entry_of t label)
+label_laws t = label_laws_over (seams t.kind t.dimension) t

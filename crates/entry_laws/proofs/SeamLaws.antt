@@ -12,7 +12,7 @@ use Rattle.iso_model.specs.Cells.{edge_count, facet_edges, edge_in_facet, label_
 use Rattle.iso_model.specs.Seams.{Seam, seams, edge_across}
 use Rattle.iso_model.specs.Faces.{has_face, face_count, face_sum}
 use Rattle.iso_model.specs.Tables.{Table, IsTable, entry_of}
-use Rattle.iso_model.specs.Acceptance.{labels_meet, sums_match, entries_meet, meets_across, rule_seams, IsAccepted}
+use Rattle.iso_model.specs.Acceptance.{labels_meet, sums_match, entries_meet, meets_across, rule_seams, IsAccepted, IsAcceptedOver}
 use Rattle.mesh_laws.proofs.FaceSigns.{has_signed}
 use Rattle.mesh_laws.proofs.FaceOf.{face_place}
 use Rattle.mesh_laws.proofs.FaceLists.{sorted_ascends, face_ascends, length_face}
@@ -130,14 +130,14 @@ face_meets kind d s here there face =
     face_count here face == face_count there (map (edge_across kind d s) face)
     && sums_match s.same_parity (face_sum here face) (face_sum there (map (edge_across kind d s) face))
 
-seam_kept : (t : Table) (s : Seam) (here there : ℕ) → IsAccepted t → In s (seams t.kind t.dimension) → here < label_count t.kind t.dimension
+seam_kept : (ss : List Seam) (t : Table) (s : Seam) (here there : ℕ) → IsAcceptedOver ss t → In s ss → here < label_count t.kind t.dimension
     → there < label_count t.kind t.dimension
     → labels_meet t.kind t.dimension s here there ≡ true → entries_meet t.kind t.dimension s (entry_of t here) (entry_of t there) ≡ true
-seam_kept t s here there accepted i less_here less_there meet =
-    let rule : rule_seams (seams t.kind t.dimension) t here ≡ true = accepted here 6 less_here (omega arith) in
+seam_kept ss t s here there accepted i less_here less_there meet =
+    let rule : rule_seams ss t here ≡ true = accepted here 6 less_here (omega arith) in
     let labels =
     all_In (λ (u : Seam). list_all (λ m. meets_across t u here m && meets_across t u m here) (numbers (label_count t.kind t.dimension)))
-    (seams t.kind t.dimension) rule s i in
+    ss rule s i in
     let both =
     all_In (λ m. meets_across t s here m && meets_across t s m here) (numbers (label_count t.kind t.dimension)) labels there
     (In-numbers (label_count t.kind t.dimension) there less_there) in
@@ -162,12 +162,12 @@ choice_meets kind d s here there face meet fit ascends all =
 
 -- the entry there has the image of a face with a sign as often as the entry here has the face, with the same sign where the parities differ, and with
 -- the other where they are the same
-pub matches_across : (t : Table) (s : Seam) (here there m : ℕ) (face : List ℕ) → IsTable t → IsAccepted t → In s (seams t.kind t.dimension)
+pub matches_across_over : (ss : List Seam) (t : Table) (s : Seam) (here there m : ℕ) (face : List ℕ) → IsTable t → IsAcceptedOver ss t → In s ss
     → here < label_count t.kind t.dimension → there < label_count t.kind t.dimension → labels_meet t.kind t.dimension s here there ≡ true
     → sorted face ≡ face → Each (λ e. (e < edge_count t.kind t.dimension) × (edge_in_facet t.kind t.dimension s.facet e ≡ true)) face
     → count_by (has_signed m (map (edge_across t.kind t.dimension s) face)) (entry_of t there)
     ≡ count_by (has_signed (m + bit s.same_parity) face) (entry_of t here)
-matches_across t s here there m face table accepted i less_here less_there meet ascends all = go (fits t.dimension face) refl
+matches_across_over ss t s here there m face table accepted i less_here less_there meet ascends all = go (fits t.dimension face) refl
   where
     other : List ℕ
     other = map (edge_across t.kind t.dimension s) face
@@ -178,7 +178,7 @@ matches_across t s here there m face table accepted i less_here less_there meet 
     go true fit =
         let met =
         choice_meets t.kind t.dimension s (entry_of t here) (entry_of t there) face
-        (seam_kept t s here there accepted i less_here less_there meet) fit ascends all in
+        (seam_kept ss t s here there accepted i less_here less_there meet) fit ascends all in
         let parts =
         and_parts (face_count (entry_of t here) face == face_count (entry_of t there) other)
         (sums_match s.same_parity (face_sum (entry_of t here) face) (face_sum (entry_of t there) other)) met in
@@ -197,3 +197,11 @@ matches_across t s here there m face table accepted i less_here less_there meet 
         (had_image_fits t.dimension (edge_across t.kind t.dimension s) (entry_of t there) face wide_there some))
         in
         counts_none (entry_of t there) other none_there m ∙ sym (counts_none (entry_of t here) face none_here (m + bit s.same_parity))
+
+-- over the seams of the table's own kind and dimension
+pub matches_across : (t : Table) (s : Seam) (here there m : ℕ) (face : List ℕ) → IsTable t → IsAccepted t → In s (seams t.kind t.dimension)
+    → here < label_count t.kind t.dimension → there < label_count t.kind t.dimension → labels_meet t.kind t.dimension s here there ≡ true
+    → sorted face ≡ face → Each (λ e. (e < edge_count t.kind t.dimension) × (edge_in_facet t.kind t.dimension s.facet e ≡ true)) face
+    → count_by (has_signed m (map (edge_across t.kind t.dimension s) face)) (entry_of t there)
+    ≡ count_by (has_signed (m + bit s.same_parity) face) (entry_of t here)
+matches_across t = matches_across_over (seams t.kind t.dimension) t
