@@ -1,6 +1,6 @@
 -- Words whose bits are set one by one.
 use Rattle.std.proofs.Common.{ap, arith, sym, ◌∙◌, inl, inr}
-use Rattle.std.proofs.lemmas.Bool.{cases_eq, cases_lt, eq-eqb, false≢true, ne_eqb}
+use Rattle.std.proofs.lemmas.Bool.{cases_eq, cases_lt, eq-eqb, ne_eqb}
 use Rattle.std.specs.Prelude.{Bool, false, nat_lt, true, ℕ, ◌&&◌, ◌||◌, ◌+◌, ◌<◌, ◌≤◌, ◌==◌, ◌≡◌, ◌≢◌, ◌⊎◌}
 use Rattle.lists.specs.Bits.{is_set}
 use Rattle.lists.proofs.Tests.{lt_of, of_lt, or_false, same_tests, not_below}

@@ -10,7 +10,7 @@ use Rattle.std.proofs.lemmas.Nat.Bits.{bit_at-lt, bit_at_lowest, bit_at-suc, bit
 use Rattle.std.proofs.lemmas.Nat.Bits.{bit_at_cat_low, bit_at_cat_high, bit_at_above, bit_at-pow_same, bit_at-pow_other}
 use Rattle.std.specs.Int.{bit_at}
 use Rattle.std.specs.List.{range_with_len}
-use Rattle.std.specs.Prelude.{Bool, cond, ◌⊎◌, bit_and, bit_or, count_by, count_ones, false, true, if◌then◌else◌, max, suc, zero}
+use Rattle.std.specs.Prelude.{Bool, cond, ◌⊎◌, bit_and, bit_or, count_by, count_ones, false, true, if◌then◌else◌, suc, zero}
 use Rattle.std.specs.Prelude.{ℕ, ◌%◌, ◌&&◌, ◌||◌, ◌*◌, ◌+◌, ◌-◌, ◌/◌, ◌<◌, ◌≤◌, ◌==◌, ◌^◌, ◌≡◌, ◌≢◌}
 use Rattle.lists.specs.Bits.{is_set}
 use Rattle.lists.specs.Orders.{numbers}

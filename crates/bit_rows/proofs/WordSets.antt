@@ -1,11 +1,11 @@
 -- Words and rows of bits that tell something of samples.
 use Rattle.std.proofs.Common.{ap, arith, inl, inr, sym, ◌∙◌}
-use Rattle.std.proofs.lemmas.Bool.{cases_lt, cases_eq, eq-eqb, ne_eqb, false≢true}
+use Rattle.std.proofs.lemmas.Bool.{cases_lt}
 use Rattle.std.proofs.lemmas.Nat.Bits.{bit_at_ones, bit_at_ones_above}
-use Rattle.std.specs.Prelude.{Bool, List, None, false, true, length, min, nat_lt, slice_index_or, ℤ, pos, ℕ}
-use Rattle.std.specs.Prelude.{◌&&◌, ◌||◌, ◌*◌, ◌+◌, ◌-◌, ◌<◌, ◌≤◌, ◌==◌, ◌^◌, ◌≡◌, ◌≢◌, ◌⊎◌}
+use Rattle.std.specs.Prelude.{Bool, List, None, length, min, nat_lt, slice_index_or, ℤ, pos, ℕ}
+use Rattle.std.specs.Prelude.{◌&&◌, ◌||◌, ◌*◌, ◌+◌, ◌-◌, ◌<◌, ◌≤◌, ◌==◌, ◌^◌, ◌≡◌, ◌⊎◌}
 use Rattle.lists.specs.Bits.{is_set}
-use Rattle.lists.proofs.Tests.{and_true, of_lt, lt_of, or_false, same_tests, not_below}
+use Rattle.lists.proofs.Tests.{and_true, of_lt, lt_of, same_tests, not_below}
 use Rattle.bit_rows.proofs.SetBelow.{AreSetBelow, none_set_below, one_more_set}
 use Rattle.bit_rows.specs.Rows.{IsWordOf}
 use Rattle.bit_rows.specs.SampleRows.{is_clear_at}

@@ -1,6 +1,6 @@
 -- Each move has an inverse: what it carries is carried back.
-use Rattle.std.specs.Prelude.{◌≡◌, ◌⊎◌, ℕ, ◌+◌, ◌*◌, ◌%◌, ◌^◌, ◌<◌, ◌≤◌, min, max, Bool, true, false, ◌==◌, ◌&&◌, nat_lt, nat_eq, List, [], map, length}
-use Rattle.std.specs.Prelude.{slice_index, slice_index_or, Contains}
+use Rattle.std.specs.Prelude.{◌≡◌, ◌⊎◌, ℕ, ◌+◌, ◌%◌, ◌^◌, ◌<◌, ◌≤◌, min, max, Bool, true, false, ◌==◌, ◌&&◌, nat_lt, List, length}
+use Rattle.std.specs.Prelude.{slice_index, Contains}
 use Rattle.std.specs.List.{list_all, position_or_len}
 use Rattle.std.specs.Int.{bit_at}
 use Rattle.std.proofs.Common.{refl, sym, ap, ◌∙◌, subst, arith, inl, inr}
@@ -12,8 +12,7 @@ use Rattle.iso_model.specs.Cells.{HasDimension, edge_count, edge_ends, edge_betw
 use Rattle.iso_model.specs.Bipolar.{differ, is_bipolar_in}
 use Rattle.iso_model.specs.Moves.{Move, IsMove, Carries, move_corner, move_edge}
 use Rattle.cell_lattice.specs.CellLemmas.{found_by_ends}
-use Rattle.cube_moves.specs.Joined.{IsJoined}
-use Rattle.cube_moves.proofs.MovedBits.{order_alone, flips_alone, with_flips, corner-below, corner-bit}
+use Rattle.cube_moves.proofs.MovedBits.{order_alone, with_flips, corner-below, corner-bit}
 use Rattle.cube_moves.proofs.OrderChecks.{back, each_below, each_order, axis-below}
 use Rattle.cube_moves.proofs.LeastLabels.{order_there, same_bit}
 use Rattle.cube_moves.proofs.ExchangeChecks.{order_of}

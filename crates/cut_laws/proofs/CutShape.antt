@@ -1,15 +1,15 @@
 -- The cut by an accepted table is a mesh of triangles that are made of its vertices, and each of its links is crossed.
-use Rattle.std.proofs.Common.{◌≡◌, ℕ, ◌<◌, ◌≤◌, Bool, true, false, ℤ, List, [], ◌∷◌, length, refl, ap, sym, ◌∙◌, subst, arith}
-use Rattle.std.specs.Prelude.{map, flat_map, All, Contains, ◌&&◌, ◌==◌, slice_index_or}
+use Rattle.std.proofs.Common.{◌≡◌, ℕ, ◌<◌, Bool, true, false, ℤ, List, [], length, refl, ap, ◌∙◌, subst, arith}
+use Rattle.std.specs.Prelude.{map, All, ◌&&◌, ◌==◌, slice_index_or}
 use Rattle.std.specs.List.{list_all}
 use Rattle.std.proofs.lemmas.Bool.{and_parts}
 use Rattle.std.proofs.lemmas.List.{length-map}
-use Rattle.std.proofs.lemmas.List.Elements.{All-append, All-map}
-use Rattle.lists.specs.Orders.{numbers, is_distinct, sorted, is_odd_order, exchange_last}
+use Rattle.std.proofs.lemmas.List.Elements.{All-map}
+use Rattle.lists.specs.Orders.{is_distinct, sorted, is_odd_order}
 use Rattle.lists.specs.Members.{In}
 use Rattle.lists.proofs.Sorting.{All-exchange_last}
 use Rattle.lists.proofs.Powers.{powers_few}
-use Rattle.lists.proofs.Contained.{Contains-head, Contains-tail, Contains-at, All-from_each, All-flat_map}
+use Rattle.lists.proofs.Contained.{Contains-at, All-from_each, All-flat_map}
 use Rattle.lists.proofs.MemberLaws.{In_from, all_In}
 use Rattle.iso_model.specs.declared.Kind.{Kind}
 use Rattle.iso_model.specs.declared.Kind.TheVariants.{Simplex}
@@ -21,7 +21,6 @@ use Rattle.iso_model.specs.Tables.{Table, IsTable, IsTuple, entry_of}
 use Rattle.iso_model.specs.Acceptance.{rule_edges, is_sound_tuple}
 use Rattle.iso_model.specs.OrderedAcceptance.{IsOfTetrahedron, IsAcceptedInOrder}
 use Rattle.iso_model.proofs.SignLaws.{length-placed}
-use Rattle.cut_laws.specs.declared.Link.{Link}
 use Rattle.cut_laws.specs.Cuts.{is_late, links, label_of, late_label, link_at, number_in, position_on, triangles_in, cut_of}
 use Rattle.cut_laws.specs.CutSteps.{IsSimplex}
 use Rattle.cut_laws.proofs.NamedTriangles.{number_below}

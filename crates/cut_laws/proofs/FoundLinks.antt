@@ -1,21 +1,19 @@
 -- The links found in the simplices, one simplex after the other, and the list of links.
-use Rattle.std.proofs.Common.{◌≡◌, ℕ, zero, suc, ◌+◌, ◌<◌, ◌≤◌, Bool, true, false, List, [], ◌∷◌, length, refl, inl, inr, ap, sym, ◌∙◌, subst, arith}
-use Rattle.std.specs.Prelude.{map, filter, flat_map, Contains, ◌⊎◌, ◌↔◌, ◌&&◌, nat_le, slice_index, if◌then◌else◌}
+use Rattle.std.proofs.Common.{◌≡◌, ℕ, suc, ◌<◌, Bool, true, false, List, [], ◌∷◌, length, refl, inl, inr, ap, sym, ◌∙◌, subst, arith}
+use Rattle.std.specs.Prelude.{map, flat_map, Contains, ◌↔◌, ◌&&◌, nat_le, slice_index, if◌then◌else◌}
 use Rattle.std.proofs.lemmas.Bool.{and_parts}
-use Rattle.iso_model.specs.declared.Kind.TheVariants.{Simplex}
-use Rattle.iso_model.specs.Bipolar.{differ}
 use Rattle.lists.specs.Orders.{numbers, has, is_distinct, put_in, sorted}
-use Rattle.lists.specs.Members.{In, Ascends, AscendsBy, Distinct}
+use Rattle.lists.specs.Members.{In, Ascends, AscendsBy}
 use Rattle.lists.proofs.Orderings.{ascends_same}
 use Rattle.lists.proofs.DistinctLists.{from_distinct_test}
 use Rattle.lists.proofs.Contained.{each-from_All}
-use Rattle.lists.proofs.MemberLaws.{In_from, Contains_from, In-map, from_In-map, In-filter, from_filter, In-flat_map, from_In-flat_map, any_from, from_any}
+use Rattle.lists.proofs.MemberLaws.{In_from, Contains_from, In-map, In-filter, from_filter, In-flat_map, from_In-flat_map, any_from, from_any}
 use Rattle.lists.proofs.MemberLaws.{In_of_has, has_of_In, In-numbers}
 use Rattle.mesh_laws.proofs.TakenMembers.{In-sorted, from_In-sorted}
 use Rattle.mesh_laws.proofs.FaceLists.{sorted_ascends}
 use Rattle.cut_laws.specs.declared.Link.{Link}
 use Rattle.cut_laws.specs.Cuts.{pairs, is_link, stand_together, links_below, link_at}
-use Rattle.cut_laws.specs.CutSteps.{Below, IsSimplex, AreLinks, is_parted, is_cut, links_in}
+use Rattle.cut_laws.specs.CutSteps.{Below, IsSimplex, AreLinks, is_parted, links_in}
 use Rattle.cut_laws.proofs.Pairs.{below_strict, pairs_ascend, ascends_filter, pair_members, member_pairs}
 
 -- ---- four numbers in order

@@ -1,10 +1,10 @@
 -- Where all corners of a simplex are late, or none is, it has no links and no triangles.
-use Rattle.std.proofs.Common.{◌≡◌, ℕ, ◌<◌, ◌≤◌, Bool, true, false, List, [], ◌∷◌, length, refl, inl, inr, ap, sym, ◌∙◌, subst, arith}
-use Rattle.std.specs.Prelude.{map, filter, flat_map, Contains, ◌⊎◌, not, ◌&&◌, ◌==◌, slice_index, All}
-use Rattle.std.specs.List.{list_all, list_any}
-use Rattle.std.proofs.lemmas.Bool.{and_parts, both_ways}
+use Rattle.std.proofs.Common.{◌≡◌, ℕ, ◌<◌, Bool, true, false, List, [], ◌∷◌, length, refl, inl, inr, sym, subst, arith}
+use Rattle.std.specs.Prelude.{◌⊎◌, not, ◌&&◌, ◌==◌, slice_index, All}
+use Rattle.std.specs.List.{list_all}
+use Rattle.std.proofs.lemmas.Bool.{and_parts}
 use Rattle.std.proofs.lemmas.List.Elements.{All-head}
-use Rattle.lists.specs.Orders.{numbers, has, is_distinct, sorted}
+use Rattle.lists.specs.Orders.{is_distinct}
 use Rattle.lists.specs.Members.{In}
 use Rattle.lists.proofs.MemberLaws.{all_below, any_from}
 use Rattle.iso_model.specs.declared.Kind.{Kind}
@@ -16,8 +16,8 @@ use Rattle.iso_model.specs.Acceptance.{rule_edges, is_sound_tuple}
 use Rattle.iso_model.specs.OrderedAcceptance.{IsOfTetrahedron, IsAcceptedInOrder}
 use Rattle.mesh_laws.proofs.TakenMembers.{from_In-sorted}
 use Rattle.cut_laws.specs.declared.Link.{Link}
-use Rattle.cut_laws.specs.Cuts.{label_of, edge_of, late_label, link_at, triangles_in}
-use Rattle.cut_laws.specs.CutSteps.{IsSimplex, HasEmptyEnds, is_parted, is_cut, links_in}
+use Rattle.cut_laws.specs.Cuts.{late_label, triangles_in}
+use Rattle.cut_laws.specs.CutSteps.{IsSimplex, HasEmptyEnds, is_cut, links_in}
 use Rattle.cut_laws.proofs.FoundLinks.{FourInOrder, four_in_order}
 
 -- ---- a simplex that is not cut

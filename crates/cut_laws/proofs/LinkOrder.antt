@@ -1,6 +1,6 @@
 -- Links in the order of a sort, and the number that a search finds.
-use Rattle.std.proofs.Common.{◌≡◌, ℕ, zero, suc, ◌+◌, ◌<◌, ◌≤◌, Bool, true, false, List, [], ◌∷◌, length, get_or, refl, inl, inr, ap, sym, ◌∙◌, subst, arith}
-use Rattle.std.specs.Prelude.{Contains, ◌⊎◌, ◌↔◌, ◌≢◌, ◌&&◌, ◌==◌, not, slice_index_or, cond, Result, Ok, Err, MatchResult, ⊤}
+use Rattle.std.proofs.Common.{◌≡◌, ℕ, zero, suc, ◌+◌, ◌<◌, Bool, true, false, List, [], ◌∷◌, length, get_or, refl, inl, inr, ap, sym, ◌∙◌, subst, arith}
+use Rattle.std.specs.Prelude.{Contains, ◌⊎◌, ◌↔◌, ◌≢◌, ◌==◌, slice_index_or, cond, Result, Ok, Err, MatchResult, ⊤}
 use Rattle.std.specs.Ordering.{nat_cmp, ordering_then, is_lt, MatchOrdering}
 use Rattle.std.specs.declared.cmp.Ordering.{Ordering}
 use Rattle.std.specs.declared.cmp.Ordering.TheVariants.{Less, Equal, Greater}

@@ -1,20 +1,18 @@
 -- The numbers of a triangle are numbers of links.
-use Rattle.std.proofs.Common.{◌≡◌, ℕ, ◌<◌, ◌≤◌, Bool, true, false, List, [], ◌∷◌, length, get_or, refl, inl, inr, ap, sym, ◌∙◌, subst, arith}
-use Rattle.std.specs.Prelude.{map, flat_map, Contains, All, ◌&&◌, ◌==◌, nat_lt, if◌then◌else◌, slice_index}
-use Rattle.std.specs.List.{list_all}
+use Rattle.std.proofs.Common.{◌≡◌, ℕ, ◌<◌, Bool, true, List, length, refl, ap, sym, ◌∙◌, subst}
+use Rattle.std.specs.Prelude.{map, flat_map, ◌&&◌, nat_lt, slice_index}
 use Rattle.std.specs.Int.{bit_at}
 use Rattle.std.proofs.lemmas.Bool.{and_parts}
-use Rattle.lists.specs.Orders.{numbers, is_distinct, sorted, is_odd_order}
+use Rattle.lists.specs.Orders.{numbers, sorted}
 use Rattle.lists.specs.Members.{In}
 use Rattle.lists.specs.Bits.{is_set}
 use Rattle.lists.proofs.Bits.{bit_is_test}
 use Rattle.lists.proofs.Powers.{powers_bits}
 use Rattle.lists.proofs.Tests.{lt_of}
-use Rattle.lists.proofs.MemberLaws.{all_below, In-numbers, In-map, In-filter, In_from, Contains_from, In-flat_map}
+use Rattle.lists.proofs.MemberLaws.{all_below, In-numbers, In-map, In-filter, Contains_from, In-flat_map}
 use Rattle.iso_model.specs.declared.Kind.TheVariants.{Simplex}
 use Rattle.iso_model.specs.Cells.{edge_ends}
 use Rattle.iso_model.specs.Bipolar.{differ, is_bipolar_in}
-use Rattle.cut_laws.specs.declared.Link.{Link}
 use Rattle.cut_laws.specs.Cuts.{label_of, edge_of, late_label, link_at, links_below, number_in}
 use Rattle.cut_laws.specs.CutSteps.{IsSimplex, is_parted, links_in}
 use Rattle.cut_laws.proofs.FoundLinks.{found_is_link, links_are}

@@ -1,12 +1,12 @@
 -- The pairs of numbers below a number, and that their list ascends.
-use Rattle.std.proofs.Common.{◌≡◌, ℕ, zero, suc, ◌+◌, ◌-◌, ◌<◌, ◌≤◌, Bool, true, List, [], ◌∷◌, ◌++◌, refl, inl, inr, ap, sym, subst, arith}
-use Rattle.std.specs.Prelude.{map, filter, flat_map, Contains, ◌⊎◌, false, if◌then◌else◌}
+use Rattle.std.proofs.Common.{◌≡◌, ℕ, zero, suc, ◌+◌, ◌-◌, ◌<◌, Bool, true, List, [], ◌∷◌, ◌++◌, refl, inl, inr, sym, subst, arith}
+use Rattle.std.specs.Prelude.{map, filter, flat_map, Contains, false, if◌then◌else◌}
 use Rattle.std.specs.List.{range_with_len}
 use Rattle.lists.specs.Orders.{numbers}
 use Rattle.lists.specs.Members.{In, IsStrict, AscendsBy}
-use Rattle.lists.proofs.Contained.{none_contained, Contains-split, Contains-filter}
+use Rattle.lists.proofs.Contained.{Contains-filter}
 use Rattle.lists.proofs.MemberLaws.{In_from, Contains_from, In-map, from_In-map, In-range, from_In-range, above_range, In-flat_map, from_In-flat_map}
-use Rattle.lists.proofs.MemberLaws.{from_In-append, In-append_left, In-append_right}
+use Rattle.lists.proofs.MemberLaws.{from_In-append}
 use Rattle.cut_laws.specs.declared.Link.{Link}
 use Rattle.cut_laws.specs.Cuts.{pairs}
 use Rattle.cut_laws.specs.CutSteps.{Below}

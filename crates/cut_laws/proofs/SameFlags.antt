@@ -1,7 +1,7 @@
 -- The links and the triangles depend on the lateness of the numbers below n alone.
-use Rattle.std.proofs.Common.{◌≡◌, ℕ, ◌<◌, ◌≤◌, Bool, true, false, List, [], ◌∷◌, ◌++◌, length, refl, inl, inr, ap, sym, ◌∙◌, subst, arith}
-use Rattle.std.specs.Prelude.{map, filter, flat_map, Contains, ◌&&◌, All}
-use Rattle.lists.specs.Orders.{numbers, sorted, is_odd_order}
+use Rattle.std.proofs.Common.{◌≡◌, ℕ, ◌<◌, Bool, List, [], ◌∷◌, ◌++◌, refl, inl, inr, ap, sym, ◌∙◌, subst, arith}
+use Rattle.std.specs.Prelude.{map, flat_map, ◌&&◌}
+use Rattle.lists.specs.Orders.{is_odd_order}
 use Rattle.lists.specs.Members.{In}
 use Rattle.lists.proofs.Contained.{filter-same, each-from_All}
 use Rattle.lists.proofs.MemberLaws.{Contains_from}
@@ -10,7 +10,7 @@ use Rattle.iso_model.specs.Placed.{placed_tuple}
 use Rattle.iso_model.specs.Tables.{Table, entry_of}
 use Rattle.mesh_laws.proofs.TakenMembers.{from_In-sorted}
 use Rattle.cut_laws.specs.declared.Link.{Link}
-use Rattle.cut_laws.specs.Cuts.{pairs, is_link, stand_together, links_below, label_of, late_label, link_at, number_in, triangles_in}
+use Rattle.cut_laws.specs.Cuts.{pairs, is_link, stand_together, links_below, late_label, link_at, number_in, triangles_in}
 use Rattle.cut_laws.specs.CutSteps.{IsSimplex}
 use Rattle.cut_laws.proofs.Pairs.{pair_members}
 use Rattle.cut_laws.proofs.FoundLinks.{FourInOrder, four_in_order}

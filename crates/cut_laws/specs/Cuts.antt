@@ -1,11 +1,11 @@
 -- The cut of a mesh of tetrahedra where coordinate 3 of its positions passes a time: a mesh of triangles.
-use Rattle.std.specs.Prelude.{◌≡◌, ◌⊎◌, ℕ, ◌^◌, ◌<◌, ◌≤◌, ◌+◌, ◌-◌, Bool, true, not, ◌&&◌, ◌==◌, ℤ, pos, ◌+ℤ◌, ◌-ℤ◌, ◌*ℤ◌, unsigned_abs, int_le, List, [], ◌∷◌}
+use Rattle.std.specs.Prelude.{◌≡◌, ◌⊎◌, ℕ, ◌^◌, ◌<◌, ◌≤◌, ◌+◌, ◌-◌, Bool, ◌&&◌, ◌==◌, ℤ, pos, ◌+ℤ◌, ◌-ℤ◌, ◌*ℤ◌, unsigned_abs, int_le, List, [], ◌∷◌}
 use Rattle.std.specs.Prelude.{map, filter, flat_map, length, slice_index, slice_index_or, sum_by, All, if◌then◌else◌}
 use Rattle.std.specs.List.{list_any, position_or_len, range_with_len}
 use Rattle.std.specs.Int.{int_div_euclid}
 use Rattle.iso_model.specs.declared.Kind.TheVariants.{Simplex}
 use Rattle.cut_laws.specs.declared.Link.{Link}
-use Rattle.lists.specs.Orders.{numbers, has, is_distinct, sorted, is_odd_order}
+use Rattle.lists.specs.Orders.{numbers, has, sorted, is_odd_order}
 use Rattle.iso_model.specs.Cells.{edge_ends}
 use Rattle.iso_model.specs.Bipolar.{differ}
 use Rattle.iso_model.specs.Crossing.{distance}

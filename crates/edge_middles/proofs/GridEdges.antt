@@ -8,7 +8,7 @@ use Rattle.iso_model.specs.declared.Kind.{Kind}
 use Rattle.iso_model.specs.declared.Kind.TheVariants.{Cube, Simplex, Pyramid}
 use Rattle.iso_model.specs.Cells.{HasDimension, edge_ends}
 use Rattle.iso_model.specs.Points.{point}
-use Rattle.iso_model.specs.Splits.{axis_order, base_axis, base_side, cells_per_cube, corner, corner_offset, cube_at, cube_of, edge_of_ends, rank_of}
+use Rattle.iso_model.specs.Splits.{axis_order, base_axis, base_side, cells_per_cube, corner, corner_offset, cube_of, edge_of_ends, rank_of}
 use Rattle.lists.proofs.MemberLaws.{map-range_more, map_same}
 use Rattle.split_laws.proofs.Coordinates.{length-cube_at}
 use Rattle.edge_middles.specs.MovedEdges.{AreMovedEdges, moved}

@@ -5,15 +5,13 @@ use Rattle.std.proofs.lemmas.List.Elements.{All-head, All-tail}
 use Rattle.std.proofs.lemmas.List.Sums.{sum_by-cons}
 use Rattle.std.proofs.Math.Nat.{mod-eq_of_lt, mul-add-mod_self_right}
 use Rattle.std.proofs.lemmas.Nat.{div-mul-add}
-use Rattle.std.specs.Prelude.{All, Bool, List, [], ◌∷◌, cond, false, true, length, map, flat_map, nat_le, nat_lt, suc}
-use Rattle.std.specs.Prelude.{ℕ, ◌*◌, ◌+◌, ◌-◌, ◌/◌, ◌%◌, ◌≤◌, ◌&&◌, ◌||◌, ◌==◌, ◌≡◌, if◌then◌else◌}
+use Rattle.std.specs.Prelude.{All, Bool, List, [], ◌∷◌, cond, true, length, map, flat_map, nat_le, nat_lt, suc}
+use Rattle.std.specs.Prelude.{ℕ, ◌*◌, ◌+◌, ◌-◌, ◌/◌, ◌%◌, ◌≤◌, ◌&&◌, ◌||◌, ◌==◌, ◌≡◌}
 use Rattle.iso_model.specs.declared.Kind.{Kind}
 use Rattle.iso_model.specs.declared.Kind.TheVariants.{Cube, Simplex, Pyramid}
 use Rattle.iso_model.specs.Cells.{HasDimension, edge_count, edge_ends}
 use Rattle.iso_model.specs.Dimensions.{IsDimension}
-use Rattle.iso_model.specs.Points.{comes_first, plus}
-use Rattle.iso_model.specs.Splits.{cells_per_cube, corner_offset, cube_at, edge, edge_of_ends, midpoint}
-use Rattle.iso_model.proofs.PointLaws.{plus_comm}
+use Rattle.iso_model.specs.Splits.{cells_per_cube, corner_offset, cube_at, edge, midpoint}
 use Rattle.lists.specs.Members.{In}
 use Rattle.lists.specs.Orders.{numbers}
 use Rattle.lists.proofs.MemberLaws.{All-from_In, In-flat_map, In-map, from_In-flat_map, from_In-map, from_In-numbers}

@@ -10,18 +10,17 @@ use Rattle.std.specs.Prelude.{Bool, Contains, List, [], ◌∷◌, ◌++◌, fal
 use Rattle.std.specs.Prelude.{◌*◌, ◌+◌, ◌/◌, ◌<◌, ◌≤◌, ◌&&◌, ◌||◌, ◌==◌, ◌≡◌, if◌then◌else◌}
 use Rattle.cell_lattice.specs.CellLemmas.{ordered_ends}
 use Rattle.iso_model.specs.Acceptance.{is_sound_tuple}
-use Rattle.iso_model.specs.Bipolar.{bipolar_edges, differ, height, is_bipolar, is_bipolar_in, place_in}
-use Rattle.iso_model.specs.Cells.{HasDimension, edge_count, edge_ends}
+use Rattle.iso_model.specs.Bipolar.{bipolar_edges, height, is_bipolar, is_bipolar_in, place_in}
+use Rattle.iso_model.specs.Cells.{HasDimension, edge_count}
 use Rattle.iso_model.specs.Crossing.{vertex_of}
 use Rattle.iso_model.specs.Dimensions.{IsDimension}
 use Rattle.iso_model.specs.Placed.{cell_simplices, placed_mesh, placed_tuple}
-use Rattle.iso_model.specs.Splits.{cell_count, cells_per_cube, corner, cube_at, cube_count, edge, is_odd_cell, midpoint}
+use Rattle.iso_model.specs.Splits.{cell_count, cells_per_cube, cube_at, cube_count, edge, is_odd_cell, midpoint}
 use Rattle.iso_model.specs.Tables.{IsTuple, Table, entry_of}
-use Rattle.iso_model.specs.Values.{Volume, cells, is_kept, label_of, positive_at}
+use Rattle.iso_model.specs.Values.{Volume, cells, is_kept, label_of}
 use Rattle.iso_model.proofs.BipolarLaws.{Contains-flat_map}
 use Rattle.iso_model.proofs.FaceLaws.{cells_below}
-use Rattle.iso_model.proofs.SignLaws.{bipolar_in_label, label_bit}
-use Rattle.lists.specs.Bits.{is_set}
+use Rattle.iso_model.proofs.SignLaws.{bipolar_in_label}
 use Rattle.lists.specs.Members.{Ascends, AscendsBy, In, IsStrict}
 use Rattle.lists.specs.Orders.{exchange_last, has, is_distinct, numbers}
 use Rattle.lists.proofs.Contained.{Contains-head, Contains-tail, Contains-filter, Contains-filtered, Contains-joined, Contains-passes}

@@ -1,4 +1,4 @@
-use Rattle.std.proofs.Common.{ap, ◌∙◌, ◌≡◌, ◌*◌, ◌%◌, ◌^◌}
+use Rattle.std.proofs.Common.{ap, ◌∙◌, ◌*◌, ◌%◌, ◌^◌}
 use Rattle.std.specs.Prelude.{◌||◌}
 use Rattle.lists.specs.Bits.{is_set}
 use Rattle.bit_rows.proofs.WordBits.{as_number, set_or, test_bit}
