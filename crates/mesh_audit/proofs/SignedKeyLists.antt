@@ -12,7 +12,8 @@ use Rattle.std.proofs.lemmas.Cmp.{nat_list_cmp_total, tied_itself}
 use Rattle.std.proofs.lemmas.Map.Text.{is_eq-slice_cmp}
 use Rattle.std.proofs.lemmas.Bool.{and_from, both_ways, false_from_ne_true}
 use Rattle.std.proofs.lemmas.Bool.Decides.{nat_tests}
-use Rattle.std.proofs.lemmas.List.{append_assoc}
+use Rattle.std.proofs.lemmas.List.{append_assoc, append-nil, length-append, take_more}
+use Rattle.std.proofs.lemmas.Grind.{flat_map-append}
 use Rattle.std.proofs.lemmas.List.FromFn.{map-range_with_len_more}
 use Rattle.std.proofs.lemmas.List.Sums.{sum_by-append}
 use Rattle.std.proofs.lemmas.List.Sorted.{searchable_from_sorted, sum_by-IsPermutation}
@@ -35,7 +36,7 @@ use Rattle.mesh_laws.proofs.OnceInLists.{counted_some, never_counted}
 use Rattle.std.proofs.lemmas.Bool.{cases_lt}
 use Rattle.mesh_laws.proofs.SignedFaces.{no_sign, signed_place}
 use Rattle.mesh_audit.specs.Findings.{AllGlued, face_at, has_wrong_face, is_glued, is_wrong_at, IsLeast, NonePasses, NoneRepeats, simplex_at}
-use Rattle.mesh_audit.specs.SignedKeys.{all_signed_faces, AreSignedFaces, sign_bit, signed_face, signed_faces_of}
+use Rattle.mesh_audit.specs.SignedKeys.{all_signed_faces, AreSignedFaces, sign_bit, signed_face, signed_faces_of, signed_key}
 use Rattle.mesh_audit.proofs.GluedBySigns.{glued_of_signs, signs_of_glued}
 
 -- ---- the keys of a simplex
@@ -46,18 +47,40 @@ pub sign_found : (w : List ℕ) (k : ℕ) → is_distinct w ≡ true → k < len
 sign_found w k d h = let r = rank w k h (from_distinct_test w d) in omega (arith, r)
 
 -- one place more
-pub signed_more : (w : List ℕ) (n : ℕ) (old now : List (List ℕ)) (key : List ℕ) → key ≡ signed_face w n → now ≡ old ++ map (signed_face w) (numbers n)
-    → now ++ key ∷ [] ≡ old ++ map (signed_face w) (numbers (n + 1))
-signed_more w n old now key e f =
+pub signed_more : (w : List ℕ) (n : ℕ) (old : List (List ℕ)) (key : List ℕ) → key ≡ signed_face w n
+    → (old ++ map (signed_face w) (numbers n)) ++ key ∷ [] ≡ old ++ map (signed_face w) (numbers (n + 1))
+signed_more w n old key e =
     let list = map (signed_face w) (numbers n) in
-    ap (λ (ks : List (List ℕ)). ks ++ key ∷ []) f ∙ append_assoc old list (key ∷ [])
+    append_assoc old list (key ∷ [])
     ∙ ap (λ (ks : List (List ℕ)). old ++ ks) (ap (λ (k : List ℕ). list ++ k ∷ []) e
     ∙ sym (map-range_with_len_more (signed_face w) 0 n n (omega arith)))
 
+-- one simplex more
+pub all_signed_more : (ws : List (List ℕ)) (i : ℕ) (w : List ℕ) → i < length ws → w ≡ slice_index_or ws i w
+    → all_signed_faces (take (i + 1) ws) ≡ all_signed_faces (take i ws) ++ signed_faces_of w
+all_signed_more ws i w h e =
+    ap all_signed_faces (take_more ws i w h ∙ ap (λ (v : List ℕ). take i ws ++ v ∷ []) (sym e))
+    ∙ flat_map-append signed_faces_of (take i ws) (w ∷ [])
+    ∙ ap (λ (fs : List (List ℕ)). all_signed_faces (take i ws) ++ fs) (append-nil (signed_faces_of w))
+
 -- ---- how often a key stands among them
 
-key_parts : (s : ℕ) (face w : List ℕ) (i : ℕ) → same_list (s ∷ face) (signed_face w i) ≡ true → (s ≡ sign_bit w i) × (face_without w i ≡ face)
-key_parts s face w i t = let e = (bytes_eq-Decides (s ∷ face) (signed_face w i)).0 t in (cc, cc)
+-- lists that are the same with one member more have the same members
+pub last_same : (xs ys : List ℕ) (a b : ℕ) → xs ++ a ∷ [] ≡ ys ++ b ∷ [] → (a ≡ b) × (xs ≡ ys)
+last_same [] [] a b e = (cc, refl)
+last_same [] (y ∷ ys) a b e = absurd (let n = ap length e in omega (arith, n, length-append ys (b ∷ [])))
+last_same (x ∷ xs) [] a b e = absurd (let n = ap length e in omega (arith, n, length-append xs (a ∷ [])))
+last_same (x ∷ xs) (y ∷ ys) a b e =
+    let first : x ≡ y = cc in
+    let rest : xs ++ a ∷ [] ≡ ys ++ b ∷ [] = cc in
+    let same = last_same xs ys a b rest in
+    let equal = same.1 in
+    (same.0, cc)
+
+key_parts : (s : ℕ) (face w : List ℕ) (i : ℕ) → same_list (signed_key s face) (signed_face w i) ≡ true → (s ≡ sign_bit w i) × (face_without w i ≡ face)
+key_parts s face w i t =
+    let e = last_same face (face_without w i) s (sign_bit w i) ((bytes_eq-Decides (signed_key s face) (signed_face w i)).0 t) in
+    (e.0, sym e.1)
 
 even_sum : (n s : ℕ) → s ≡ n % 2 → not (is_odd (n + s)) ≡ true
 even_sum n s e = let none : (n + s) % 2 ≡ 0 = omega (arith, e) in ap (λ (r : ℕ). not (r == 1)) none
@@ -71,10 +94,10 @@ from_even_sum n s l t = by_rest ((n + s) % 2) refl (omega arith)
     by_rest (suc (suc r)) e h = absurd (omega (arith, h))
 
 any_key : (s : ℕ) (face w : List ℕ) → s < 2 → is_distinct w ≡ true
-    → list_any (λ i. same_list (s ∷ face) (signed_face w i)) (numbers (length w)) ≡ has_signed s face w
-any_key s face w two d = same_tests (list_any (λ i. same_list (s ∷ face) (signed_face w i)) (numbers (length w))) (has_signed s face w)
+    → list_any (λ i. same_list (signed_key s face) (signed_face w i)) (numbers (length w)) ≡ has_signed s face w
+any_key s face w two d = same_tests (list_any (λ i. same_list (signed_key s face) (signed_face w i)) (numbers (length w))) (has_signed s face w)
     (λ t.
-    let r = from_any (λ i. same_list (s ∷ face) (signed_face w i)) (numbers (length w)) t in
+    let r = from_any (λ i. same_list (signed_key s face) (signed_face w i)) (numbers (length w)) t in
     let parts = key_parts s face w r.0 r.2 in
     let sign = signed_place s face w r.0 d (from_In-numbers (length w) r.0 r.1) parts.1 in
     and_from (is_distinct w) (list_any (is_signed_face s face) (left_out w)) d (sign ∙ even_sum (r.0 + inversions (without r.0 w)) s parts.0))
@@ -83,8 +106,8 @@ any_key s face w two d = same_tests (list_any (λ i. same_list (s ∷ face) (sig
     let sign = signed_place s face w place.0 d place.1 place.2 in
     let any : list_any (is_signed_face s face) (left_out w) ≡ true = sym (ap (λ (b : Bool). b && list_any (is_signed_face s face) (left_out w)) d) ∙ t in
     let same = from_even_sum (place.0 + inversions (without place.0 w)) s two (sym sign ∙ any) in
-    any_from (λ i. same_list (s ∷ face) (signed_face w i)) (numbers (length w)) place.0 (In-numbers (length w) place.0 place.1)
-    ((bytes_eq-Decides (s ∷ face) (signed_face w place.0)).1 (key_same same (sym place.2))))
+    any_from (λ i. same_list (signed_key s face) (signed_face w i)) (numbers (length w)) place.0 (In-numbers (length w) place.0 place.1)
+    ((bytes_eq-Decides (signed_key s face) (signed_face w place.0)).1 (key_same same (sym place.2))))
   where
     has_it : has_signed s face w ≡ true → has_face face w ≡ true
     has_it t = go (has_face face w) refl
@@ -93,23 +116,23 @@ any_key s face w two d = same_tests (list_any (λ i. same_list (s ∷ face) (sig
         go true e = refl
         go false e = absurd (both_ways (has_signed s face w) (no_sign s face w e) t)
 
-    key_same : {a b : ℕ} {f g : List ℕ} → a ≡ b → f ≡ g → a ∷ f ≡ b ∷ g
+    key_same : {a b : ℕ} {f g : List ℕ} → a ≡ b → f ≡ g → signed_key a f ≡ signed_key b g
     key_same e f = cc
 
-key_count : (s : ℕ) (face w : List ℕ) → s < 2 → is_distinct w ≡ true → count_by (same_list (s ∷ face)) (signed_faces_of w) ≡ bit (has_signed s face w)
+key_count : (s : ℕ) (face w : List ℕ) → s < 2 → is_distinct w ≡ true → count_by (same_list (signed_key s face)) (signed_faces_of w) ≡ bit (has_signed s face w)
 key_count s face w two d =
-    count-map (same_list (s ∷ face)) (signed_face w) (numbers (length w))
-    ∙ at_most_one (λ i. same_list (s ∷ face) (signed_face w i)) (numbers (length w)) (Distinct-range 0 (length w)) (λ i j a b e f.
+    count-map (same_list (signed_key s face)) (signed_face w) (numbers (length w))
+    ∙ at_most_one (λ i. same_list (signed_key s face) (signed_face w i)) (numbers (length w)) (Distinct-range 0 (length w)) (λ i j a b e f.
     one_place face w d i j (from_In-numbers (length w) i a) (from_In-numbers (length w) j b) (key_parts s face w i e).1 (key_parts s face w j f).1)
     ∙ ap bit (any_key s face w two d)
 
 all_key_count : (s : ℕ) (face : List ℕ) (ws : List (List ℕ)) → s < 2 → ((w : List ℕ) → In w ws → is_distinct w ≡ true)
-    → count_by (same_list (s ∷ face)) (all_signed_faces ws) ≡ count_by (has_signed s face) ws
+    → count_by (same_list (signed_key s face)) (all_signed_faces ws) ≡ count_by (has_signed s face) ws
 all_key_count s face [] two d = refl
 all_key_count s face (w ∷ ws) two d =
     omega (
       arith,
-      sum_by-append (λ f. cond (same_list (s ∷ face) f) 1 0) (signed_faces_of w) (all_signed_faces ws),
+      sum_by-append (λ f. cond (same_list (signed_key s face) f) 1 0) (signed_faces_of w) (all_signed_faces ws),
       key_count s face w two (d w (inl refl)),
       count_by-cons (has_signed s face) w ws,
       all_key_count s face ws two (λ v i. d v (inr i)),
@@ -130,9 +153,10 @@ distinct_all ws none w i =
 
 -- a key stands as often among the keys as there are simplices that have the face with the sign
 keys_count : (ws keys : List (List ℕ)) (s : ℕ) (face : List ℕ) → s < 2 → NoneRepeats ws → AreSignedFaces ws keys
-    → count_by (same_list (s ∷ face)) keys ≡ count_by (has_signed s face) ws
+    → count_by (same_list (signed_key s face)) keys ≡ count_by (has_signed s face) ws
 keys_count ws keys s face two none are =
-    sum_by-IsPermutation (λ k. cond (same_list (s ∷ face) k) 1 0) (all_signed_faces ws) keys are.moved ∙ all_key_count s face ws two (distinct_all ws none)
+    sum_by-IsPermutation (λ k. cond (same_list (signed_key s face) k) 1 0) (all_signed_faces ws) keys are.moved
+    ∙ all_key_count s face ws two (distinct_all ws none)
 
 -- ---- wrong faces
 
@@ -141,7 +165,7 @@ few_of n e = grind (arith, nat_tests)
 
 module _ (ws keys : List (List ℕ)) (i place : ℕ) (none : NoneRepeats ws) (are : AreSignedFaces ws keys) (h : i < length ws)
     (l : place < length (simplex_at ws i)) where
-  count_of : (s : ℕ) → s < 2 → count_by (same_list (s ∷ face_at ws i place)) keys ≡ count_by (has_signed s (face_at ws i place)) ws
+  count_of : (s : ℕ) → s < 2 → count_by (same_list (signed_key s (face_at ws i place))) keys ≡ count_by (has_signed s (face_at ws i place)) ws
   count_of s two = keys_count ws keys s (face_at ws i place) two none are
 
   some : 1 ≤ face_count ws (face_at ws i place)
@@ -152,26 +176,26 @@ module _ (ws keys : List (List ℕ)) (i place : ℕ) (none : NoneRepeats ws) (ar
       (any_place (face_at ws i place) w place l refl))
 
   -- a face is wrong where it stands twice with one sign
-  wrong_of : (s : ℕ) → s < 2 → nat_lt 1 (count_by (same_list (s ∷ face_at ws i place)) keys) ≡ true
+  wrong_of : (s : ℕ) → s < 2 → nat_lt 1 (count_by (same_list (signed_key s (face_at ws i place))) keys) ≡ true
       → ((is_glued ws (face_at ws i place) ≡ true) → count_by (has_signed s (face_at ws i place)) ws ≤ 1) → is_wrong_at ws i place ≡ true
   wrong_of s two t few = by_test (is_glued ws (face_at ws i place)) refl
     where
       by_test : (b : Bool) → is_glued ws (face_at ws i place) ≡ b → not b ≡ true
       by_test false e = refl
-      by_test true e = absurd (omega (arith, lt_of 1 (count_by (same_list (s ∷ face_at ws i place)) keys) t, count_of s two, few e))
+      by_test true e = absurd (omega (arith, lt_of 1 (count_by (same_list (signed_key s (face_at ws i place))) keys) t, count_of s two, few e))
 
-  pub wrong_at_first : nat_lt 1 (count_by (same_list (0 ∷ face_at ws i place)) keys) ≡ true → is_wrong_at ws i place ≡ true
+  pub wrong_at_first : nat_lt 1 (count_by (same_list (signed_key 0 (face_at ws i place))) keys) ≡ true → is_wrong_at ws i place ≡ true
   wrong_at_first t = wrong_of 0 (omega arith) t (λ g. (signs_of_glued ws (face_at ws i place) g).0)
 
-  pub wrong_at_second : nat_lt 1 (count_by (same_list (0 ∷ face_at ws i place)) keys) ≡ false
-      → nat_lt 1 (count_by (same_list (1 ∷ face_at ws i place)) keys) ≡ is_wrong_at ws i place
-  wrong_at_second e = by_test (nat_lt 1 (count_by (same_list (1 ∷ face_at ws i place)) keys)) refl
+  pub wrong_at_second : nat_lt 1 (count_by (same_list (signed_key 0 (face_at ws i place))) keys) ≡ false
+      → nat_lt 1 (count_by (same_list (signed_key 1 (face_at ws i place))) keys) ≡ is_wrong_at ws i place
+  wrong_at_second e = by_test (nat_lt 1 (count_by (same_list (signed_key 1 (face_at ws i place))) keys)) refl
     where
-      by_test : (b : Bool) → nat_lt 1 (count_by (same_list (1 ∷ face_at ws i place)) keys) ≡ b → b ≡ is_wrong_at ws i place
+      by_test : (b : Bool) → nat_lt 1 (count_by (same_list (signed_key 1 (face_at ws i place))) keys) ≡ b → b ≡ is_wrong_at ws i place
       by_test true t = sym (wrong_of 1 (omega arith) t (λ g. (signs_of_glued ws (face_at ws i place) g).1))
       by_test false t =
-          let first = few_of (count_by (same_list (0 ∷ face_at ws i place)) keys) e in
-          let second = few_of (count_by (same_list (1 ∷ face_at ws i place)) keys) t in
+          let first = few_of (count_by (same_list (signed_key 0 (face_at ws i place))) keys) e in
+          let second = few_of (count_by (same_list (signed_key 1 (face_at ws i place))) keys) t in
           sym
           (ap not
           (glued_of_signs ws (face_at ws i place) some (omega (arith, first, count_of 0 (omega arith))) (omega (arith, second, count_of 1 (omega arith)))))
@@ -200,7 +224,8 @@ once_few keys once key = false_from_ne_true (nat_lt 1 (count_by (same_list key) 
 pub once_glued : (ws keys : List (List ℕ)) → NoneRepeats ws → AreSignedFaces ws keys → list_all (is_once keys) keys ≡ true → AllGlued ws
 once_glued ws keys none are once = λ i h.
     none_wrong ws i (length (simplex_at ws i)) refl (λ place l.
-    sym (wrong_at_second ws keys i place none are h l (once_few keys once (0 ∷ face_at ws i place))) ∙ once_few keys once (1 ∷ face_at ws i place))
+    sym (wrong_at_second ws keys i place none are h l (once_few keys once (signed_key 0 (face_at ws i place))))
+    ∙ once_few keys once (signed_key 1 (face_at ws i place)))
 
 -- ---- a search of a key
 
@@ -216,9 +241,10 @@ pub not_found : (keys : List (List ℕ)) (key : List ℕ) → ((j : ℕ) → j <
     → nat_lt 1 (count_by (same_list key) keys) ≡ false
 not_found keys key apart = ap (nat_lt 1) (never_counted key keys apart)
 
--- a key of which the first number became the sign
-pub sign_set : (key face : List ℕ) (bit s : ℕ) → key ≡ padded face → bit ≡ s → slice_set key 0 bit ≡ s ∷ face
-sign_set key face bit s e f = ap (λ (k : List ℕ). slice_set k 0 bit) e ∙ ap (λ (n : ℕ). n ∷ face) f
+-- a key of which the first number became the sign, which then moved to the end
+pub sign_moved : (key face now : List ℕ) (sign : ℕ) → key ≡ padded face → now ≡ drop 1 (slice_set key 0 sign) ++ take 1 (slice_set key 0 sign)
+    → now ≡ signed_key sign face
+sign_moved key face now sign e f = f ∙ ap (λ (k : List ℕ). drop 1 (slice_set k 0 sign) ++ take 1 (slice_set k 0 sign)) e
 
 -- ---- a test of each place
 

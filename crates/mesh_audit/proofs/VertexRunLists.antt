@@ -4,7 +4,7 @@ use Rattle.std.proofs.Common.{◌≡◌, ◌≤◌, ◌∙◌, ◌∷◌}
 use Rattle.std.specs.Prelude.{All, cond, count_by, filter, is_some, map, nat_eq, nat_lt, None, Option, slice_index_or, Some, ◌&&◌, ◌==◌, ◌≢◌, if◌then◌else◌}
 use Rattle.std.specs.List.Sorted.{IsNonDecreasingBy, IsPermutation}
 use Rattle.std.proofs.lemmas.Bool.{both_ways, false_from_ne_true}
-use Rattle.std.proofs.lemmas.List.{length-append, length-map, map-append, take_more}
+use Rattle.std.proofs.lemmas.List.{append_assoc, length-append, length-map, map-append, take_more}
 use Rattle.std.proofs.lemmas.List.Elements.{All-append, All-push, filter-append}
 use Rattle.std.proofs.lemmas.List.Sorted.{All-permutation, length_permutation, sum_by-IsPermutation}
 use Rattle.lists.specs.Members.{Distinct, In}
@@ -73,6 +73,15 @@ one_triangle n (a ∷ b ∷ c ∷ []) k e d = by_tests (nat_eq k a) (nat_eq k b)
         let t' = nat_eq-sym b k ∙ t in
         let u' = nat_eq-sym c k ∙ u in
         simp (s, t, u, s', t', u')
+
+-- a triangle at one of its numbers more
+pub incidence_more : (t : ℕ) (w : List ℕ) (i : ℕ) (old : List Incidence) → i < length w
+    → (old ++ incidences_of t (take i w)) ++ record { vertex = slice_index_or w i 0; triangle = t } ∷ [] ≡ old ++ incidences_of t (take (i + 1) w)
+incidence_more t w i old h =
+    let v = slice_index_or w i 0 in
+    let make : ℕ → Incidence = λ x. record { vertex = x; triangle = t } in
+    append_assoc old (map make (take i w)) (make v ∷ [])
+    ∙ ap (λ (l : List Incidence). old ++ l) (sym (map-append make (take i w) (v ∷ [])) ∙ ap (map make) (sym (take_more w i 0 h)))
 
 pub incidences_more : (n : ℕ) (ws : List (List ℕ)) (es : List Incidence) (w : List ℕ) → n < length ws → w ≡ slice_index_or ws n [] → length w ≡ 3
     → is_distinct w ≡ true → AreIncidencesBelow n ws es → AreIncidencesBelow (n + 1) ws (es ++ incidences_of n w)

@@ -1,5 +1,5 @@
 -- The faces of all simplices with their signs, as keys that are sorted.
-use Rattle.std.specs.Prelude.{ℕ, Bool, ◌≡◌, ◌+◌, ◌%◌, ◌<◌, List, ◌∷◌, map, flat_map, length}
+use Rattle.std.specs.Prelude.{ℕ, Bool, ◌≡◌, ◌+◌, ◌-◌, ◌%◌, ◌<◌, List, [], ◌∷◌, ◌++◌, map, flat_map, length, slice_set}
 use Rattle.std.specs.Cmp.Lexicographic.{slice_cmp}
 use Rattle.std.specs.List.Sorted.{IsPermutation, IsSorted}
 use Rattle.std.specs.Ordering.{nat_cmp}
@@ -11,9 +11,17 @@ use Rattle.mesh_audit.specs.Findings.{has_wrong_face, is_wrong_at, simplex_at, I
 abbrev pub sign_bit : List ℕ → ℕ → ℕ
 sign_bit w place = (place + inversions (without place w)) % 2
 
--- a face with the sign that a simplex has it with: the key is the sign, and the numbers of the face
+-- a face with a sign: the numbers of the face, and the sign behind them
+abbrev pub signed_key : ℕ → List ℕ → List ℕ
+signed_key sign face = face ++ sign ∷ []
+
+-- a face with the sign that a simplex has it with
 abbrev pub signed_face : List ℕ → ℕ → List ℕ
-signed_face w place = sign_bit w place ∷ face_without w place
+signed_face w place = signed_key (sign_bit w place) (face_without w place)
+
+-- a key of which the sign became a 0
+abbrev pub unsigned : List ℕ → List ℕ
+unsigned key = slice_set key (length key - 1) 0
 
 -- the faces of a simplex with their signs, place by place
 abbrev pub signed_faces_of : List ℕ → List (List ℕ)

@@ -1,12 +1,14 @@
 -- The triangles at each vertex, as pairs of a vertex and a triangle that are sorted.
-use Rattle.std.specs.Prelude.{ℕ, ◌≡◌, ◌+◌, ◌*◌, ◌^◌, ◌<◌, ◌≤◌, Bool, true, false, List, map, filter, length, nat_eq, All, is_some, slice_index_or, take, Some}
-use Rattle.std.specs.List.Sorted.{IsNonDecreasingBy}
+use Rattle.std.specs.Prelude.{ℕ, ◌≡◌, ◌+◌, ◌*◌, ◌^◌, ◌<◌, ◌≤◌, Bool, true, false, List, map, filter, length, nat_eq, All, is_some, slice_index_or, take, Some, Vec}
+use Rattle.std.proofs.Common.{Global}
+use Rattle.std.specs.List.Sorted.{IsNonDecreasingBy, IsPermutation}
 use Rattle.lists.specs.Orders.{numbers}
 use Rattle.iso_model.specs.Walks.{reading, triangles_at, turned, walk}
 use Rattle.mesh_laws.specs.declared.rounds.Corner.{Corner}
 use Rattle.mesh_laws.specs.Rounds.{numbers_of, corner_of, AreCornersAt}
 use Rattle.mesh_audit.specs.declared.links.Incidence.{Incidence}
 use Rattle.mesh_audit.specs.Findings.{has_wrong_link, is_trail_right}
+use Rattle.mesh_audit.specs.Groups.{members_of}
 
 -- the order of incidences: by their vertex, and by their triangle where they have the same vertex
 abbrev pub rank_of : Incidence → ℕ
@@ -25,6 +27,10 @@ pub record AreIncidencesBelow (n : ℕ) (simplices : List (List ℕ)) (es : List
   pub inside : All (λ (e : Incidence). e.triangle < length simplices) es
   pub few : length es ≡ 3 * n
   pub at_each : (k : ℕ) → triangles_in es k ≡ filter (λ t. is_some (reading simplices k t)) (numbers n)
+
+-- the members of groups are the incidences of the triangles below n
+abbrev pub AreGrouped : ℕ → List (List ℕ) → List (Vec Incidence Global) → Type 0
+AreGrouped n simplices groups = (es : List Incidence) × (AreIncidencesBelow n simplices es × IsPermutation es (members_of groups))
 
 -- these are the incidences of all triangles, in order
 pub record AreIncidences (simplices : List (List ℕ)) (es : List Incidence) : Type 0 where

@@ -8,9 +8,9 @@ ghost use Rattle.mesh_audit.specs.OffMeshes.{AreIndices};
 use crate::findings::{Finding, Off};
 use crate::links::wrong_link;
 use crate::repeats::least_repeat;
-use crate::sides::wrong_side;
+use crate::sides::{Sides, judge_sides};
 use iso_base::Memory;
-use mesh_laws::{face_count, face_key, face_sum, free_faces};
+use mesh_laws::{face_count, face_key, face_sum};
 use std::alloc::Global;
 
 /// No memory holds an array of so many numbers.
@@ -21,8 +21,9 @@ const ARRAY_LIMIT: usize = 1 << 61;
 /// The numbers of the simplices are those of vertices. Where D is more than 256, a face that is not glued may have a
 /// place that is no byte: then no finding can name it, and the answer is that of refused memory.
 ///
-/// Sorts the faces with their signs, and in three dimensions the triangles by their vertices: takes time in proportion
-/// to `n log n` for `n` simplices, and D numbers for each face of a simplex.
+/// Puts the faces with their signs in order by way of groups of near numbers, and in three dimensions the triangles at
+/// each vertex. Takes time in proportion to the number of simplices where a number is in few of them, and to `n log n`
+/// for `n` simplices in any case, and little more memory than D numbers for each face of a simplex.
 pub fn audit<const D: usize>(alloc: Global, off: &Off<D>) -> Result<Finding, Memory>
     requires indices { AreIndices off.now }
     requires few { length off.now.simplices < 2 ^ 30 }
@@ -37,18 +38,20 @@ pub fn audit<const D: usize>(alloc: Global, off: &Off<D>) -> Result<Finding, Mem
             simplex: number as u32,
         });
     }
-    if let Some((number, place)) = wrong_side(alloc, simplices)? {
-        let Ok(place) = u8::try_from(place) else {
-            return Err(Memory);
-        };
-        return Ok(face_finding(simplices, number, place));
-    }
+    let boundary = match judge_sides(alloc, simplices, off.vertices)? {
+        Sides::Glued { boundary } => boundary,
+        Sides::Wrong { number, place } => {
+            let Ok(place) = u8::try_from(place) else {
+                return Err(Memory);
+            };
+            return Ok(face_finding(simplices, number, place));
+        }
+    };
     if D == 3 {
-        if let Some(vertex) = wrong_link(alloc, simplices)? {
+        if let Some(vertex) = wrong_link(alloc, simplices, off.vertices)? {
             return Ok(Finding::Link { vertex });
         }
     }
-    let boundary = free_faces(alloc, simplices)?;
     Ok(Finding::Clean { boundary })
 }
 

@@ -6,6 +6,7 @@
 
 mod audits;
 mod findings;
+mod groups;
 mod laws;
 mod links;
 mod repeats;

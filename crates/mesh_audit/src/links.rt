@@ -1,23 +1,40 @@
 //! The triangles at each vertex, and the first vertex where they are neither one cycle nor one path.
 //!
-//! The pairs of a vertex and a triangle there are sorted, so that those at one vertex stand side by side.
+//! The pairs of a vertex and a triangle there are put in order by way of groups, so that those at one vertex stand side
+//! by side.
 
 ghost use Rattle.std.specs.Prelude.{◌≡◌, ◌+◌, ◌<◌, ◌≤◌, ◌^◌, ◌++◌, ◌∷◌, [], length, All, IfOk, OnOk, IfNone, IfSome};
 ghost use Rattle.std.specs.List.Sorted.{IsNonDecreasingBy, IsPermutation};
 ghost use Rattle.mesh_audit.specs.Findings.{NoneRepeats, is_trail_right};
-ghost use Rattle.mesh_audit.specs.VertexRuns.{rank_of, vertex_of, incidences_of, AreIncidencesBelow, AreIncidences};
+ghost use Rattle.mesh_audit.specs.Groups.{members_of};
+ghost use Rattle.mesh_audit.specs.VertexRuns.{rank_of, vertex_of, incidences_of, AreGrouped, AreIncidences};
 ghost use Rattle.mesh_audit.specs.VertexRuns.{corner_at, AreCornersOf, IsRightAnswer, IsRun, NoWrongLink, IsLeastLink};
 
+use crate::groups::{Member, Widths, add_member, join_groups, no_members};
 use crate::sides::push;
 use iso_base::Memory;
 use mesh_laws::{Corner, Trail, WalkRoom, turned, walk_round};
 use std::alloc::Global;
+
+/// The incidences are put into so many groups at most, as a power of two. Their groups are larger than those of faces,
+/// so that an allocator that gives back blocks of that size at once gives these back too.
+const GROUP_BITS: u32 = 7;
 
 /// A vertex and a triangle there, by their numbers.
 #[derive(Clone, Copy, Debug, PartialEq, Eq)]
 struct Incidence {
     vertex: u32,
     triangle: u32,
+}
+
+impl Member for Incidence {
+    fn number(&self) -> u32 {
+        self.vertex
+    }
+
+    fn sort(members: &mut Vec<Incidence>) {
+        sort_incidences(members);
+    }
 }
 
 /// Room for the walk round one vertex, which is used again for the next one.
@@ -38,10 +55,12 @@ impl Round {
     }
 }
 
-// The least vertex that has triangles, but neither one cycle of them, of three or more, nor one path.
+// The least vertex that has triangles, but neither one cycle of them, of three or more, nor one path. The numbers of
+// vertices are mostly below a bound.
 pub(crate) fn wrong_link<const D: usize>(
     alloc: Global,
     simplices: &[[u32; D]],
+    bound: u32,
 ) -> Result<Option<u32>, Memory>
     requires dimension { D ≡ 3 }
     requires distinct { NoneRepeats simplices.now }
@@ -49,7 +68,7 @@ pub(crate) fn wrong_link<const D: usize>(
     ensures none { IfOk result (λ vertex. IfNone vertex (NoWrongLink simplices.now)) }
     ensures some { IfOk result (λ vertex. IfSome vertex (IsLeastLink simplices.now)) }
 {
-    let incidences = incidences(alloc, simplices)?;
+    let incidences = incidences(alloc, simplices, bound)?;
     let mut round = Round::new(alloc);
     let mut start = 0;
     while start < incidences.len() {
@@ -62,58 +81,64 @@ pub(crate) fn wrong_link<const D: usize>(
     Ok(None)
 }
 
-// The incidences of all triangles, in order.
+// The incidences of all triangles, in order. The numbers of vertices are mostly below a bound.
 fn incidences<const D: usize>(
     alloc: Global,
     simplices: &[[u32; D]],
+    bound: u32,
 ) -> Result<Vec<Incidence>, Memory>
     requires dimension { D ≡ 3 }
     requires distinct { NoneRepeats simplices.now }
     requires few { length simplices.now < 2 ^ 30 }
     ensures { IfOk result (λ incidences. AreIncidences simplices.now incidences.items) }
 {
-    let mut incidences = list_incidences(alloc, simplices)?;
+    let Some(count) = simplices.len().checked_mul(D) else {
+        return Err(Memory);
+    };
+    let widths = Widths::new(bound, GROUP_BITS);
+    let groups = group_all_incidences(alloc, simplices, widths)?;
+    let mut incidences = join_groups(alloc, groups, widths, count)?;
     sort_incidences(&mut incidences);
     Ok(incidences)
 }
 
-// The incidences of all triangles, triangle by triangle.
-fn list_incidences<const D: usize>(
+// The incidences of all triangles, in groups.
+fn group_all_incidences<const D: usize>(
     alloc: Global,
     simplices: &[[u32; D]],
-) -> Result<Vec<Incidence>, Memory>
+    widths: Widths,
+) -> Result<Vec<Vec<Incidence>>, Memory>
     requires dimension { D ≡ 3 }
     requires distinct { NoneRepeats simplices.now }
     requires few { length simplices.now < 2 ^ 30 }
-    ensures { IfOk result (λ incidences. AreIncidencesBelow (length simplices.now) simplices.now incidences.items) }
+    ensures { IfOk result (λ groups. AreGrouped (length simplices.now) simplices.now groups.items) }
 {
-    let Some(count) = simplices.len().checked_mul(D) else {
-        return Err(Memory);
-    };
-    let Ok(mut incidences) = Vec::with_capacity(alloc, count) else {
-        return Err(Memory);
-    };
+    let mut groups = no_members(alloc)?;
     for (number, simplex) in simplices.iter().enumerate() {
-        add_incidences(number as u32, simplex, &mut incidences)?;
+        group_incidences(number as u32, simplex, widths, &mut groups)?;
     }
-    Ok(incidences)
+    Ok(groups)
 }
 
-// Adds the incidences of a triangle.
-fn add_incidences<const D: usize>(
+// Puts the incidences of a triangle into their groups.
+fn group_incidences<const D: usize>(
     triangle: u32,
     simplex: &[u32; D],
-    incidences: &mut Vec<Incidence>,
+    widths: Widths,
+    groups: &mut [Vec<Incidence>],
 ) -> Result<(), Memory>
-    ensures added { OnOk result (incidences.new.items ≡ incidences.old.items ++ incidences_of triangle simplex.now) }
-    ensures count { OnOk result (length incidences.new.items ≡ length incidences.old.items + D) }
+    requires { 0 < length groups.old }
+    ensures long { OnOk result (length simplex.now ≡ D) }
+    ensures count { OnOk result (length groups.new ≡ length groups.old) }
+    ensures added { OnOk result
+        (IsPermutation (members_of groups.old ++ incidences_of triangle simplex.now) (members_of groups.new)) }
 {
     for vertex in simplex {
         let incidence = Incidence {
             vertex: *vertex,
             triangle,
         };
-        push(incidences, incidence)?;
+        add_member(incidence, widths, groups)?;
     }
     Ok(())
 }
