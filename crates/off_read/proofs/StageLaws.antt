@@ -1,14 +1,14 @@
 -- What is asked of the words of a file, one after another.
-use Rattle.std.specs.Prelude.{◌≡◌, ℕ, ◌+◌, ◌≤◌, List, [], ◌∷◌, length, Option}
+use Rattle.std.specs.Prelude.{◌≡◌, ℕ, ◌+◌, List, [], ◌∷◌, length, Option}
 use Rattle.std.proofs.Common.{refl, ap, sym, ◌∙◌, arith, subst}
 use Rattle.iso_formats.specs.MeshFile.{Word, Stage, MeshFault, lines_of, words_from, stopped, next_stage, stage_behind, ends_at, mesh_refused}
 use Rattle.off_read.specs.declared.faults.OffFault.{OffFault}
 use Rattle.off_read.specs.declared.faults.OffFault.TheVariants.{Long, Header, Count, Coordinate, FaceSize, Index, Extra, Short, Shelf, Memory}
-use Rattle.off_read.specs.ScanForms.{Scan, limit}
+use Rattle.off_read.specs.ScanForms.{Scan}
 use Rattle.off_read.specs.Scans.{GivesWord, Goes, Refuses, FailsAt, EndsEarly, reading, reading_from}
 use Rattle.off_read.specs.Meshes.{IsUnended, EndsAs}
 use Rattle.off_read.specs.WordForms.{Known}
-use Rattle.off_read.proofs.TakingLaws.{told_map, told_then, told_same, takes_then, takes_few, takes_none}
+use Rattle.off_read.proofs.TakingLaws.{told_map, told_then, takes_then, takes_few}
 
 stopped_ends : (n : ℕ) (cause : MeshFault) (ws : List Word) → ends_at n (stage_behind (stopped cause) ws) ≡ mesh_refused cause
 stopped_ends n cause [] = refl

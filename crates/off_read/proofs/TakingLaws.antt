@@ -3,14 +3,17 @@ use Rattle.std.specs.Prelude.{◌≡◌, ℕ, suc, ◌+◌, ◌-◌, ◌<◌, �
 use Rattle.std.specs.Io.KnownBytes.{Consumes, IsAtEnd}
 use Rattle.std.proofs.KnownBytes.{Consumes-trans}
 use Rattle.std.proofs.Common.{refl, ap, sym, ◌∙◌, arith, subst}
-use Rattle.std.proofs.lemmas.List.{length-append}
+use Rattle.std.specs.List.{list_all}
+use Rattle.std.proofs.lemmas.List.{append_assoc, drop-drop, drop-take, length-append, take-append-drop, take_more}
+use Rattle.std.proofs.lemmas.List.Folds.{list_all-append}
 use Rattle.std.proofs.Math.Seq.{drop-cons}
 use Rattle.iso_formats.specs.MeshFile.{Stage, next_stage}
 use Rattle.off_read.specs.declared.faults.OffFault.{OffFault}
 use Rattle.off_read.specs.declared.faults.OffFault.TheVariants.{Long, Header, Count, Coordinate, FaceSize, Index, Extra, Short, Shelf, Memory}
 use Rattle.off_read.specs.ScanForms.{Scan, limit}
-use Rattle.off_read.specs.Scans.{Told, Takes, TakesFew, Refills, FindsNone, GivesByte, GivesNext, GivesWord, FindsEnd, ReadsOn, Sees, IsInWord, Fails, budget}
-use Rattle.off_read.specs.Scans.{reading, reading_in, lines_passed, IsSameLine}
+use Rattle.off_read.specs.Scans.{Told, Takes, TakesFew, Refills, FindsNone, GivesByte, GivesNext, GivesWord, FindsEnd, ReadsOn, Runs, Sees, IsInWord, Fails, budget}
+use Rattle.off_read.specs.Scans.{is_word_byte, mark, reading, reading_from, reading_in, lines_passed, IsSameLine}
+use Rattle.off_read.specs.declared.reader.Place.TheVariants.{OnLine}
 use Rattle.off_read.specs.WordForms.{IsSoFar, Known}
 use Rattle.off_read.proofs.SeeLaws.{moved, no_more, word_last}
 use Rattle.off_read.proofs.LineWords.{filled}
@@ -79,6 +82,24 @@ gives_next a b old mid new byte r e same t i =
       before = let k = same.0 in omega (arith, n, k, t, i);
     }
 
+-- what is left is a front of it and the rest
+pub rest_left : (piece : List ℕ) (start end n : ℕ) → n ≤ end - start
+    → take (end - start) (drop start piece) ≡ take n (take (end - start) (drop start piece)) ++ take (end - (start + n)) (drop (start + n) piece)
+rest_left piece start end n h =
+    let long : end - start ≡ n + (end - (start + n)) = omega (arith, h) in
+    let left = take (end - start) (drop start piece) in
+    sym (take-append-drop n left)
+    ∙ ap (λ (l : List ℕ). take n left ++ l)
+    (ap (λ (k : ℕ). drop n (take k (drop start piece))) long ∙ drop-take n (end - (start + n)) (drop start piece)
+    ∙ ap (take (end - (start + n))) (drop-drop n start piece))
+
+-- one byte more may stand in a word
+pub run_more : (bytes : List ℕ) (i : ℕ) → i < length bytes → list_all is_word_byte (take i bytes) ≡ true
+    → is_word_byte (slice_index bytes i) ≡ true → list_all is_word_byte (take (i + 1) bytes) ≡ true
+run_more bytes i h all one =
+    ap (list_all is_word_byte) (take_more bytes i 0 h)
+    ∙ list_all-append is_word_byte (take i bytes) (slice_index bytes i ∷ []) ∙ rw (all, one) refl
+
 -- ---- failures
 
 pub fails_then : (a b c : Option (List ℕ)) (r s t : Scan) (fault : OffFault) → Takes a b r s → Fails b c s t fault → Fails a c r t fault
@@ -124,6 +145,70 @@ reads_more a b c old mid next new before after byte r g l t see =
           p stage ∙ ap (λ (m : List ℕ). reading_in mid r.text stage m) q ∙ same_in mid next r.text stage (byte ∷ (next.left ++ z)) g.same
           ∙ s.3 stage (next.left ++ z) ∙ ap (λ (m : List ℕ). reading_in new s.0 stage (m ++ z)) (sym l)) r.reads g.next;
     }
+
+-- no byte is looked at yet
+pub reads_none : (a : Option (List ℕ)) (s : Scan) (word : Known) → s.taken ≤ limit → IsSoFar word [] → ReadsOn a a s s word
+reads_none a s word few so = record {
+  takes = (takes_none a s s refl, few);
+  text = [];
+  known = so;
+  begun = record { right = refl; standing = λ h. absurd (omega (arith, h)) };
+  spends = omega arith;
+  spends_more = λ h. absurd (omega (arith, h));
+  reads = told_same a _ (λ x stage. refl);
+}
+
+-- bytes of the word that has begun, or of one that begins, are added
+pub runs_on : (a b : Option (List ℕ)) (old mid new : Scan) (before after : Known) → ReadsOn a b old mid before → Runs mid new before after
+    → ReadsOn a b old new after
+runs_on a b old mid new before after r n =
+    let long = ap (λ (l : List ℕ). length l) n.left in
+    let lengths = length-append n.run new.left in
+    let taken = n.same.1 in
+    record {
+      takes = (
+        record { came = r.takes.0.came; consumed = r.takes.0.consumed; counted = taken ∙ r.takes.0.counted },
+        let few = r.takes.1 in omega (arith, few, taken),
+      );
+      text = r.text ++ n.run;
+      known = n.known r.text r.known;
+      begun = record {
+        right = let s = r.begun.right in let t = n.right in list_all-append is_word_byte r.text n.run ∙ rw (s, t) refl;
+        standing = λ h. n.same.0.1 ∙ on_line_at r.text h r.begun.standing;
+      };
+      spends = let x = r.spends in omega (arith, x, long, lengths, taken);
+      spends_more = λ h. more r.text h r.spends_more;
+      reads = told_map a b _ _ (λ x y p stage.
+          p stage ∙ same_in mid new r.text stage (mid.left ++ y) n.same.0
+          ∙ ap (λ (l : List ℕ). reading_in new r.text stage (l ++ y)) n.left
+          ∙ ap (λ (l : List ℕ). reading_from new.ended stage (mark new.place ++ l)) (moved_in r.text y)) r.reads;
+    }
+  where
+    on_line_at : (text : List ℕ) → 0 < length (text ++ n.run) → (0 < length text → mid.place ≡ OnLine) → mid.place ≡ OnLine
+    on_line_at [] h standing = n.standing h
+    on_line_at (x ∷ text) h standing = standing (omega arith)
+
+    more : (text : List ℕ) → 0 < length (text ++ n.run) → (0 < length text → budget mid < budget old) → budget new < budget old
+    more [] h spends =
+        let x = r.spends in
+        let long = ap (λ (l : List ℕ). length l) n.left in
+        let taken = n.same.1 in
+        omega (arith, h, x, long, length-append n.run new.left, taken, r.takes.1)
+    more (c ∷ text) h spends =
+        let x = spends (omega arith) in
+        let long = ap (λ (l : List ℕ). length l) n.left in
+        let taken = n.same.1 in
+        omega (arith, x, long, length-append n.run new.left, taken)
+
+    moved_in : (text y : List ℕ) → text ++ ((n.run ++ new.left) ++ y) ≡ (text ++ n.run) ++ (new.left ++ y)
+    moved_in text y = ap (λ (l : List ℕ). text ++ l) (append_assoc n.run new.left y) ∙ sym (append_assoc text n.run (new.left ++ y))
+
+-- and no byte more may be looked at
+pub runs_spend : (mid new : Scan) (before after : Known) → Runs mid new before after → budget new ≤ budget mid
+runs_spend mid new before after n =
+    let long = ap (λ (l : List ℕ). length l) n.left in
+    let taken = n.same.1 in
+    omega (arith, long, length-append n.run new.left, taken)
 
 -- the line of a word is no part of what is known of its bytes
 on_line : (w v : Known) (n : ℕ) (text : List ℕ) → v ≡ record w { line = n } → IsSoFar w text → IsSoFar v text

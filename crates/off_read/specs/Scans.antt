@@ -156,6 +156,15 @@ pub record ReadsOn (old_rest new_rest : Option (List ℕ)) (old new : Scan) (wor
   pub spends_more : 0 < length text → budget new < budget old
   pub reads : Told old_rest new_rest (λ a b. (stage : Stage) → reading old stage a ≡ reading_in new text stage (new.left ++ b))
 
+-- bytes of a word come off the front of those that are left, where there are any on a line that has begun
+pub record Runs (old new : Scan) (before after : Known) : Type 0 where
+  pub run : List ℕ
+  pub same : IsSameLine old new × (new.taken ≡ old.taken)
+  pub left : old.left ≡ run ++ new.left
+  pub right : list_all is_word_byte run ≡ true
+  pub standing : 0 < length run → old.place ≡ OnLine
+  pub known : (text : List ℕ) → IsSoFar before text → IsSoFar after (text ++ run)
+
 -- a byte is seen, whatever the text of the word that has begun
 abbrev pub IsSeen : Scan → Scan → Known → Known → ℕ → Bool → Type 0
 IsSeen old new before after byte ends = (text : List ℕ) → IsSoFar before text → IsInWord old text → Sees old new after text byte ends

@@ -1,10 +1,12 @@
 //! The words of a file, one after another, read through a buffer.
 
-ghost use Rattle.std.specs.Prelude.{◌≡◌, ℕ, ◌+◌, ◌<◌, ◌≤◌, [], List, length, OnOk, IfOk, IfErr, IsNone};
+ghost use Rattle.std.specs.Prelude.{◌≡◌, ℕ, ◌+◌, ◌<◌, ◌≤◌, [], List, length, take, true, OnOk, IfOk, IfErr, IsNone};
+ghost use Rattle.std.specs.List.{list_all};
 ghost use Rattle.iso_base.specs.Shelves.{IsSameShelf};
 ghost use Rattle.iso_formats.specs.MeshFile.{is_gap};
 ghost use Rattle.off_read.specs.Faults.{BlamesFairly, blame_of};
 ghost use Rattle.off_read.specs.Scans.{new_scan, lines_passed, without_line, Gives, GivesByte, Refills, IsSeen, Fails, Drains, is_passing};
+ghost use Rattle.off_read.specs.Scans.{Runs, is_word_byte};
 ghost use Rattle.off_read.specs.ScanForms.{limit};
 ghost use Rattle.off_read.specs.WordForms.{IsSoFar};
 
@@ -104,11 +106,13 @@ impl Reader {
         ensures fails { IfErr result (Fails (S.rest shelf.old) (S.rest shelf.new) self.old self.new) }
     {
         let mut word = Word::new();
+        self.take_run(&mut word);
         while let Some(byte) = self.next_byte(shelf)? {
             if self.see(byte, &mut word) {
                 word.line = self.lines();
                 return Ok(Some(word));
             }
+            self.take_run(&mut word);
         }
         if word.is_empty() {
             return Ok(None);
@@ -158,6 +162,19 @@ impl Reader {
         }
         word.push(byte);
         false
+    }
+
+    // Takes bytes of one word at the front of those that are left, where the reader stands on a line.
+    fn take_run(&mut self, word: &mut Word)
+        ensures { Runs self.old self.new word.old word.new }
+    {
+        if self.place != Place::OnLine {
+            return;
+        }
+        let left = &self.piece[self.start..self.end];
+        let count = run_length(left);
+        word.push_all(&left[..count]);
+        self.start += count;
     }
 
     // The next byte, or none at the end of the file.
@@ -225,6 +242,26 @@ impl Reader {
         }
         Ok(count > 0)
     }
+}
+
+// How many bytes at the front may stand in one word.
+fn run_length(bytes: &[u8]) -> usize
+    ensures within { result ≤ length bytes.now }
+    ensures right { list_all is_word_byte (take result bytes.now) ≡ true }
+{
+    for (place, byte) in bytes.iter().enumerate() {
+        if !is_word_byte(*byte) {
+            return place;
+        }
+    }
+    bytes.len()
+}
+
+// Whether a byte may stand in a word.
+fn is_word_byte(byte: u8) -> bool
+    ensures { result ≡ is_word_byte byte }
+{
+    !is_gap(byte) && byte != b'\n' && byte != b'#'
 }
 
 // Whether a byte stands between words.

@@ -73,6 +73,15 @@ impl Word {
         self.coordinate &= may_stand(byte);
     }
 
+    // Adds the next bytes.
+    pub(crate) fn push_all(&mut self, bytes: &[u8])
+        ensures { (text : List ℕ) → IsSoFar self.old text → IsSoFar self.new (text ++ bytes.now) }
+    {
+        for byte in bytes {
+            self.push(*byte);
+        }
+    }
+
     // Whether no byte has come.
     pub(crate) fn is_empty(&self) -> bool
         ensures { (text : List ℕ) → IsSoFar self.now text → result ≡ is_empty text }

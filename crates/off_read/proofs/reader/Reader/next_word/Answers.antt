@@ -3,8 +3,17 @@ use Rattle.std.specs.Prelude.{Bool, Option, ℕ}
 use Rattle.std.proofs.lemmas.Result.{err_from_is_err_and}
 use Rattle.off_read.specs.Scans.{GivesByte, GivesNext, Sees}
 use Rattle.off_read.specs.WordForms.{Known}
-use Rattle.off_read.proofs.TakingLaws.{fails_then, reads_more, word_ends, finds_end, word_at_end, none_given}
+use Rattle.off_read.proofs.TakingLaws.{fails_then, reads_more, reads_none, runs_on, word_ends, finds_end, word_at_end, none_given}
 use Rattle.off_read.proofs.reader.Reader.next_word.Goals as goal
+
+pub loop-byte-init : goal.loop-byte-init
+loop-byte-init g c =
+    let rest = g.S.Shelf.rest c.args.shelf.now in
+    record {
+      same = search rules;
+      reads = runs_on rest rest c.args.self.now c.args.self.now c.take_run.new.self c.new-word.result c.take_run.new.word
+          (reads_none rest c.args.self.now c.new-word.result c.requires c.new-word.ensures) c.take_run.ensures;
+    }
 
 pub returns-in_err-byte-clause-fails : goal.returns-in_err-byte-clause-fails
 returns-in_err-byte-clause-fails g c =
@@ -33,11 +42,12 @@ loop-byte-preserved g c =
     let new = c.see.new.self in
     let byte : GivesNext before now c.loop-byte.self next c.in-Some.byte =
     subst (λ (o : Option ℕ). GivesByte before now c.loop-byte.self next o) c.in-Some.is c.in_ok-byte.ensures.gives in
+    let on = reads_more _ before now c.args.self.now c.loop-byte.self next new c.loop-byte.word c.see.new.word c.in-Some.byte c.loop-byte.invariant.reads byte
+    c.see.ensures.kept.0 c.see.ensures.kept.1
+    (λ text so i. subst (λ (b : Bool). Sees next new c.see.new.word text c.in-Some.byte b) c.if-see.false (c.see.ensures.seen text so i)) in
     record {
       same = search rules;
-      reads = reads_more _ before now c.args.self.now c.loop-byte.self next new c.loop-byte.word c.see.new.word c.in-Some.byte c.loop-byte.invariant.reads byte
-          c.see.ensures.kept.0 c.see.ensures.kept.1
-          (λ text so i. subst (λ (b : Bool). Sees next new c.see.new.word text c.in-Some.byte b) c.if-see.false (c.see.ensures.seen text so i));
+      reads = runs_on _ now c.args.self.now new c.take_run-in-Some.new.self c.see.new.word c.take_run-in-Some.new.word on c.take_run-in-Some.ensures;
     }
 
 pub returns-then-is_empty-clause-gives : goal.returns-then-is_empty-clause-gives
