@@ -8,7 +8,7 @@ use std::test::Fail;
 /// A file, and its vertices with the number of its simplices, or its fault.
 type Row = (&'static str, Result<(u32, usize), OffFault>);
 
-const ROWS: [Row; 18] = [
+const ROWS: [Row; 22] = [
     (
         "OFF\n3 2 0\n0 0 0\n1 0 0\n0 1 0\n3 0 1 2\n3 0 1 2\n",
         Ok((3, 2)),
@@ -36,6 +36,10 @@ const ROWS: [Row; 18] = [
         Err(OffFault::FaceSize(6)),
     ),
     ("COFF\n", Err(OffFault::Header(1))),
+    ("\nNOFF\n", Err(OffFault::Header(2))),
+    ("4OFF\n", Err(OffFault::Header(1))),
+    ("{ OFF\n", Err(OffFault::Header(1))),
+    ("3\n4 4 6\n", Err(OffFault::Header(1))),
     ("OFF BINARY\n", Err(OffFault::Count(1))),
     ("nOFF 03\n", Err(OffFault::Header(1))),
     ("OFF 1 0 0\n0 - 0", Err(OffFault::Coordinate(2))),
@@ -49,6 +53,57 @@ const ROWS: [Row; 18] = [
         "OFF 3 1 0\n0 0 0 0 0 0 0 0 0\n2 0 1\n",
         Err(OffFault::FaceSize(3)),
     ),
+];
+
+/// The surface of a tetrahedron, as other programs write it.
+const WRITTEN: [&str; 4] = [
+    // admesh 0.98
+    "OFF\n\
+         4 4 0\n\
+         \t0.000000 0.000000 0.000000\n\
+         \t0.000000 1.000000 0.000000\n\
+         \t1.000000 0.000000 0.000000\n\
+         \t0.000000 0.000000 1.000000\n\
+         \t3 0 1 2\n\
+         \t3 0 2 3\n\
+         \t3 0 3 1\n\
+         \t3 2 1 3\n",
+    // gts2oogl of GTS 0.7
+    "OFF 4 4 6\n\
+         0.000000 1.000000 0.000000\n\
+         1.000000 0.000000 0.000000\n\
+         0.000000 0.000000 1.000000\n\
+         0.000000 0.000000 0.000000\n\
+         3 0 2 1\n\
+         3 1 2 3\n\
+         3 3 0 1\n\
+         3 2 0 3\n",
+    // ctmconv of OpenCTM 1.0
+    "OFF\n\
+         \n\
+         4 4 0\n\
+         0 0 0\n\
+         1 0 0\n\
+         0 1 0\n\
+         0 0 1\n\
+         3 0 2 1\n\
+         3 0 1 3\n\
+         3 0 3 2\n\
+         3 1 2 3\n",
+    // meshio 7.0
+    "OFF\n\
+         # Created by meshio\n\
+         \n\
+         4 4 0\n\
+         \n\
+         0.0 0.0 0.0\n\
+         1.0 0.0 0.0\n\
+         0.0 1.0 0.0\n\
+         0.0 0.0 1.0\n\
+         3 0 2 1\n\
+         3 0 1 3\n\
+         3 0 3 2\n\
+         3 1 2 3\n",
 ];
 
 /// The numbers of the calls of a shelf that fail, counted from the one that begins the file, and what is answered of a
@@ -90,6 +145,17 @@ fn files_are_read_or_refused(rt: HostRuntime) -> Result<(), Fail> {
             (Ok(off), Ok(want)) => assert_eq!(rt; counts(&off), *want, "{text}"),
             (Err(fault), Err(want)) => assert_eq!(rt; fault, *want, "{text}"),
             _ => return Err("another answer".into()),
+        }
+    }
+    Ok(())
+}
+
+#[test]
+fn files_of_other_programs_are_read(rt: HostRuntime) -> Result<(), Fail> {
+    for text in &WRITTEN {
+        match read(rt.alloc(), text, &[])? {
+            Ok(off) => assert_eq!(rt; counts(&off), (4, 4), "{text}"),
+            Err(fault) => assert_eq!(rt; fault, OffFault::Memory, "{text}"),
         }
     }
     Ok(())
