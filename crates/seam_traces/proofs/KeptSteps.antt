@@ -29,10 +29,10 @@ kept_at facet p v inside e =
     length-map f [] = refl
     length-map f (x ∷ xs) = let r = length-map f xs in omega arith
 
-abbrev lists : List (Vec FaceTally Global) → List (List FaceTally)
+abbrev pub lists : List (Vec FaceTally Global) → List (List FaceTally)
 lists vs = map (λ (k : Vec FaceTally Global). k.items) vs
 
-seen_is : (facet : Facet) (p : ℕ) (s : Seen) → p < length facet.seen.items → s ≡ get_or facet.seen.items p s → seen_at facet p ≡ s
+pub seen_is : (facet : Facet) (p : ℕ) (s : Seen) → p < length facet.seen.items → s ≡ get_or facet.seen.items p s → seen_at facet p ≡ s
 seen_is facet p s inside e = any_default facet.seen.items p Never s inside ∙ sym e
 
 -- the first label with its pattern

@@ -8,3 +8,5 @@ pub mod SeamRule
 pub mod GatheredSteps
 pub mod KeptSteps
 pub mod TraceTables
+pub mod JoinedRuns
+pub mod JoinedFacets

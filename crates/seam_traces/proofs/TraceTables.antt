@@ -84,14 +84,14 @@ straight : (cs : List (ℕ × ℤ)) → trace_across false cs ≡ cs
 straight [] = refl
 straight (c ∷ cs) = ap (λ l. c ∷ l) (straight cs)
 
-have_more : (t : Table) (n f p first : ℕ) (kept : List FaceTally) → HaveTrace t n f p first kept
+have_more : (t : Table) (low n f p first : ℕ) (kept : List FaceTally) → HaveTrace t low n f p first kept
     → (pattern t.kind t.dimension f n ≡ p → trace t.kind t.dimension f (entry_of t n) ≡ trace t.kind t.dimension f (entry_of t first))
-    → HaveTrace t (n + 1) f p first kept
-have_more t n f p first kept h last = record {
+    → HaveTrace t low (n + 1) f p first kept
+have_more t low n f p first kept h last = record {
   is_label = let less = h.is_label in omega arith;
   is_first = h.is_first;
-  alike = λ m less e. elim (cases_lt m n) [
-    | inl before ↦ h.alike m before e
+  alike = λ m from less e. elim (cases_lt m n) [
+    | inl before ↦ h.alike m from before e
     | inr behind ↦
         let same : n ≡ m = omega arith in
         subst (λ k. trace t.kind t.dimension f (entry_of t k) ≡ trace t.kind t.dimension f (entry_of t first)) same
@@ -99,11 +99,12 @@ have_more t n f p first kept h last = record {
   ];
 }
 
-two_more : (t : Table) (n f p first other : ℕ) (kept : List FaceTally) → HaveTwoTraces t n f p first other kept
-    → HaveTwoTraces t (n + 1) f p first other kept
-two_more t n f p first other kept h = record {
+two_more : (t : Table) (low n f p first other : ℕ) (kept : List FaceTally) → HaveTwoTraces t low n f p first other kept
+    → HaveTwoTraces t low (n + 1) f p first other kept
+two_more t low n f p first other kept h = record {
   is_label = let less = h.is_label in omega arith;
   is_first = h.is_first;
+  other_from = h.other_from;
   other_label = let less = h.other_label in omega arith;
   other_pattern = h.other_pattern;
   differ = h.differ;
@@ -111,17 +112,17 @@ two_more t n f p first other kept h = record {
 }
 
 -- a label with another pattern
-tells_other : (t : Table) (n f p : ℕ) (s : Seen) (kept : List FaceTally) → (pattern t.kind t.dimension f n ≡ p → ⊥) → TellsPattern t n f p s kept
-    → TellsPattern t (n + 1) f p s kept
-tells_other t n f p Never kept other h = λ m less e. elim (cases_lt m n) [
-  | inl before ↦ h m before e
+tells_other : (t : Table) (low n f p : ℕ) (s : Seen) (kept : List FaceTally) → (pattern t.kind t.dimension f n ≡ p → ⊥) → TellsPattern t low n f p s kept
+    → TellsPattern t low (n + 1) f p s kept
+tells_other t low n f p Never kept other h = λ m from less e. elim (cases_lt m n) [
+  | inl before ↦ h m from before e
   | inr behind ↦ let same : n ≡ m = omega arith in other (subst (λ k. pattern t.kind t.dimension f k ≡ p) (sym same) e)
 ]
-tells_other t n f p (Alike first) kept other h = have_more t n f p first kept h (λ e. absurd (other e))
-tells_other t n f p (Unlike first second) kept other h = two_more t n f p first second kept h
+tells_other t low n f p (Alike first) kept other h = have_more t low n f p first kept h (λ e. absurd (other e))
+tells_other t low n f p (Unlike first second) kept other h = two_more t low n f p first second kept h
 
 -- the trace of a label is that of the first one with its pattern exactly where their tallies are the same
-same_traces : (t : Table) (f n first : ℕ) (kept more : List FaceTally) → IsDimension t.dimension → HasDimension t.kind t.dimension
+pub same_traces : (t : Table) (f n first : ℕ) (kept more : List FaceTally) → IsDimension t.dimension → HasDimension t.kind t.dimension
     → TellTrace t.kind t.dimension f (entry_of t first) kept → TellTrace t.kind t.dimension f (entry_of t n) more
     → (kept ≡ more) ↔ (trace t.kind t.dimension f (entry_of t n) ≡ trace t.kind t.dimension f (entry_of t first))
 same_traces t f n first kept more is has one two = (
@@ -133,49 +134,51 @@ same_traces t f n first kept more is has one two = (
 )
 
 -- a label with this pattern
-tells_here : (t : Table) (n f p : ℕ) (s s' : Seen) (kept kept' more : List FaceTally) → IsDimension t.dimension → HasDimension t.kind t.dimension
-    → pattern t.kind t.dimension f n ≡ p
-    → TellTrace t.kind t.dimension f (entry_of t n) more → TakesTallies n more s kept s' kept' → TellsPattern t n f p s kept
-    → TellsPattern t (n + 1) f p s' kept'
-tells_here t n f p Never s' kept kept' more is has here tell takes h =
-    let whole : HaveTrace t (n + 1) f p n kept' = record {
+tells_here : (t : Table) (low n f p : ℕ) (s s' : Seen) (kept kept' more : List FaceTally) → IsDimension t.dimension → HasDimension t.kind t.dimension
+    → low ≤ n → pattern t.kind t.dimension f n ≡ p
+    → TellTrace t.kind t.dimension f (entry_of t n) more → TakesTallies n more s kept s' kept' → TellsPattern t low n f p s kept
+    → TellsPattern t low (n + 1) f p s' kept'
+tells_here t low n f p Never s' kept kept' more is has run here tell takes h =
+    let whole : HaveTrace t low (n + 1) f p n kept' = record {
       is_label = omega arith;
       is_first = record {
+        from = run;
         has_pattern = here;
         tells = subst (TellTrace t.kind t.dimension f (entry_of t n)) (sym takes.1) tell;
         none_before = h;
       };
-      alike = λ m less e. elim (cases_lt m n) [
-        | inl before ↦ absurd (h m before e)
+      alike = λ m from less e. elim (cases_lt m n) [
+        | inl before ↦ absurd (h m from before e)
         | inr behind ↦ let same : m ≡ n = omega arith in ap (λ k. trace t.kind t.dimension f (entry_of t k)) same
       ];
     } in
-    subst (λ b. TellsPattern t (n + 1) f p b kept') (sym takes.0) whole
-tells_here t n f p (Alike first) s' kept kept' more is has here tell takes h = elim takes.1 [
+    subst (λ b. TellsPattern t low (n + 1) f p b kept') (sym takes.0) whole
+tells_here t low n f p (Alike first) s' kept kept' more is has run here tell takes h = elim takes.1 [
   | inl same ↦
       let traces = (same_traces t f n first kept more is has h.is_first.tells tell).0 same.1 in
-      let whole : HaveTrace t (n + 1) f p first kept = have_more t n f p first kept h (λ e. traces) in
-      subst (λ b. TellsPattern t (n + 1) f p b kept') (sym same.0) (subst (λ l. HaveTrace t (n + 1) f p first l) (sym takes.0) whole)
+      let whole : HaveTrace t low (n + 1) f p first kept = have_more t low n f p first kept h (λ e. traces) in
+      subst (λ b. TellsPattern t low (n + 1) f p b kept') (sym same.0) (subst (λ l. HaveTrace t low (n + 1) f p first l) (sym takes.0) whole)
   | inr other ↦
-      let whole : HaveTwoTraces t (n + 1) f p first n kept = record {
+      let whole : HaveTwoTraces t low (n + 1) f p first n kept = record {
         is_label = let less = h.is_label in omega arith;
         is_first = h.is_first;
+        other_from = run;
         other_label = omega arith;
         other_pattern = here;
         differ = λ e. other.1 ((same_traces t f n first kept more is has h.is_first.tells tell).1 e);
         alike_before = h.alike;
       } in
-      subst (λ b. TellsPattern t (n + 1) f p b kept') (sym other.0) (subst (λ l. HaveTwoTraces t (n + 1) f p first n l) (sym takes.0) whole)
+      subst (λ b. TellsPattern t low (n + 1) f p b kept') (sym other.0) (subst (λ l. HaveTwoTraces t low (n + 1) f p first n l) (sym takes.0) whole)
 ]
-tells_here t n f p (Unlike first second) s' kept kept' more is has here tell takes h =
-    subst (λ b. TellsPattern t (n + 1) f p b kept') (sym takes.0)
-    (subst (λ l. HaveTwoTraces t (n + 1) f p first second l) (sym takes.1) (two_more t n f p first second kept h))
+tells_here t low n f p (Unlike first second) s' kept kept' more is has run here tell takes h =
+    subst (λ b. TellsPattern t low (n + 1) f p b kept') (sym takes.0)
+    (subst (λ l. HaveTwoTraces t low (n + 1) f p first second l) (sym takes.1) (two_more t low n f p first second kept h))
 
-tells_facet : (t : Table) (n f p : ℕ) (tallies : List FaceTally) (old new : Facet) → IsDimension t.dimension → HasDimension t.kind t.dimension
-    → IsFacetOf t.kind t.dimension f old
-    → AreTallies t.dimension (entry_of t n) tallies → TakesLabel n tallies old new → TellsPattern t n f p (seen_at old p) (tallies_at old p)
-    → TellsPattern t (n + 1) f p (seen_at new p) (tallies_at new p)
-tells_facet t n f p tallies old new is has facet are takes h =
+tells_facet : (t : Table) (low n f p : ℕ) (tallies : List FaceTally) (old new : Facet) → IsDimension t.dimension → HasDimension t.kind t.dimension
+    → IsFacetOf t.kind t.dimension f old → low ≤ n
+    → AreTallies t.dimension (entry_of t n) tallies → TakesLabel n tallies old new → TellsPattern t low n f p (seen_at old p) (tallies_at old p)
+    → TellsPattern t low (n + 1) f p (seen_at new p) (tallies_at new p)
+tells_facet t low n f p tallies old new is has facet run are takes h =
     let on : pattern_on old n ≡ pattern t.kind t.dimension f n = ap (λ (l : List ℕ). places l n) facet.corners in
     elim (cases_eq p (pattern_on old n)) [
       | inl e ↦
@@ -184,58 +187,59 @@ tells_facet t n f p tallies old new is has facet are takes h =
           takes.here in
           let tell : TellTrace t.kind t.dimension f (entry_of t n) (tallies_on old tallies) =
           record { tallies = tallies; are_tallies = are; kept_are = ap (λ (l : List ℕ). tallies_in l tallies) facet.edges } in
-          tells_here t n f p (seen_at old p) (seen_at new p) (tallies_at old p) (tallies_at new p) (tallies_on old tallies) is has (sym (e ∙ on)) tell
+          tells_here t low n f p (seen_at old p) (seen_at new p) (tallies_at old p) (tallies_at new p) (tallies_on old tallies) is has run (sym (e ∙ on)) tell
           takes_here h
       | inr other ↦
           let r = takes.others p other in
-          subst (λ s. TellsPattern t (n + 1) f p s (tallies_at new p)) (sym r.0) (subst (λ l. TellsPattern t (n + 1) f p (seen_at old p) l) (sym r.1)
-          (tells_other t n f p (seen_at old p) (tallies_at old p) (λ e. other (sym (on ∙ e))) h))
+          subst (λ s. TellsPattern t low (n + 1) f p s (tallies_at new p)) (sym r.0) (subst (λ l. TellsPattern t low (n + 1) f p (seen_at old p) l) (sym r.1)
+          (tells_other t low n f p (seen_at old p) (tallies_at old p) (λ e. other (sym (on ∙ e))) h))
     ]
 
-pub tells_more : (kind : Kind) (d : ℕ) (t : Table) (n : ℕ) (tallies : List FaceTally) (old new : List Facet) → t.kind ≡ kind → t.dimension ≡ d
+pub tells_more : (kind : Kind) (d : ℕ) (t : Table) (low n : ℕ) (tallies : List FaceTally) (old new : List Facet) → t.kind ≡ kind → t.dimension ≡ d
     → IsDimension d → HasDimension kind d
-    → AreFacetsOf kind d old → AreTallies d (entry_of t n) tallies → EachTakesLabel n tallies old new → TellLabels t n old → TellLabels t (n + 1) new
-tells_more kind d t n tallies old new k e is has facets are takes tell f p x in_f in_p =
+    → AreFacetsOf kind d old → low ≤ n → AreTallies d (entry_of t n) tallies → EachTakesLabel n tallies old new → TellLabels t low n old
+    → TellLabels t low (n + 1) new
+tells_more kind d t low n tallies old new k e is has facets run are takes tell f p x in_f in_p =
     let facets' : AreFacetsOf t.kind t.dimension old =
     subst (λ b. AreFacetsOf b t.dimension old) (sym k) (subst (λ b. AreFacetsOf kind b old) (sym e) facets) in
     let is' : IsDimension t.dimension = subst IsDimension (sym e) is in
     let has' : HasDimension t.kind t.dimension = subst (λ b. HasDimension b t.dimension) (sym k) (subst (λ b. HasDimension kind b) (sym e) has) in
     let are' : AreTallies t.dimension (entry_of t n) tallies = subst (λ b. AreTallies b (entry_of t n) tallies) (sym e) are in
-    tells_facet t n f p tallies (get_or old f x) (get_or new f x) is' has' (facets'.each f x in_f) are'
+    tells_facet t low n f p tallies (get_or old f x) (get_or new f x) is' has' (facets'.each f x in_f) run are'
     (takes.each f x (let c = facets'.count in omega arith)) (tell f p x in_f in_p)
 
--- before the first label
-pub tells_none : (t : Table) (facets : List Facet) → All (λ (x : Facet). (p : ℕ) → seen_at x p ≡ Never) facets
-    → length facets ≡ facet_count t.kind t.dimension → TellLabels t 0 facets
-tells_none t facets never count f p x in_f in_p =
-    subst (λ s. TellsPattern t 0 f p s (tallies_at (get_or facets f x) p)) (sym (never f x (omega arith) p)) (λ m less e. let h : m < 0 = less in omega arith)
+-- before the first label of a run
+pub tells_none : (t : Table) (low : ℕ) (facets : List Facet) → All (λ (x : Facet). (p : ℕ) → seen_at x p ≡ Never) facets
+    → length facets ≡ facet_count t.kind t.dimension → TellLabels t low low facets
+tells_none t low facets never count f p x in_f in_p =
+    subst (λ s. TellsPattern t low low f p s (tallies_at (get_or facets f x) p)) (sym (never f x (omega arith) p)) (λ m from less e. omega (arith, from, less))
 
 -- ---- a label at the ends of a seam
 
 first_against : (t : Table) (n f g : ℕ) (same : Bool) (label first : ℕ) (more kept : List FaceTally) → IsDimension t.dimension
     → HasDimension t.kind t.dimension
     → face_places t.kind t.dimension f ≡ face_places t.kind t.dimension g → TellTrace t.kind t.dimension f (entry_of t label) more
-    → first < n → IsFirstWith t g (pattern t.kind t.dimension f label) first kept
+    → first < n → IsFirstWith t 0 g (pattern t.kind t.dimension f label) first kept
     → (kept ≡ tallies_across same more → ⊥) → IsLeastAgainst t n f g same label first
 first_against t n f g same label first more kept is has e tell less h differs = record {
   is_label = less;
   has_pattern = h.has_pattern;
   differs = λ d. differs (
       tallies_correspond t.kind t.dimension f g is has same (entry_of t label) (entry_of t first) more kept e tell h.tells d);
-  before = λ m low p. absurd (h.none_before m low p);
+  before = λ m less p. absurd (h.none_before m (omega arith) less p);
 }
 
 told_against : (t : Table) (n f g : ℕ) (same : Bool) (label : ℕ) (more : List FaceTally) (s : Seen) (kept : List FaceTally) (answer : Option ℕ)
     → IsDimension t.dimension → HasDimension t.kind t.dimension
     → face_places t.kind t.dimension f ≡ face_places t.kind t.dimension g → TellTrace t.kind t.dimension f (entry_of t label) more
-    → TellsPattern t n g (pattern t.kind t.dimension f label) s kept
+    → TellsPattern t 0 n g (pattern t.kind t.dimension f label) s kept
     → IsAgainst same more s kept answer → TellsAgainst t n f g same label answer
 told_against t n f g same label more Never kept answer is has e tell h told =
-    let all : Corresponds t n f g same label = λ m less p. absurd (h m less p) in subst (TellsAgainst t n f g same label) (sym told) all
+    let all : Corresponds t n f g same label = λ m less p. absurd (h m (omega arith) less p) in subst (TellsAgainst t n f g same label) (sym told) all
 told_against t n f g same label more (Alike first) kept answer is has e tell h told = elim told [
   | inl like ↦
       let all : Corresponds t n f g same label = λ m less p.
-      h.alike m less p
+      h.alike m (omega arith) less p
       ∙ traces_correspond t.kind t.dimension f g is has same (entry_of t label) (entry_of t first) more kept e tell h.is_first.tells like.0 in
       subst (TellsAgainst t n f g same label) (sym like.1) all
   | inr other ↦
@@ -250,7 +254,7 @@ told_against t n f g same label more (Unlike first second) kept answer is has e 
         is_label = h.other_label;
         has_pattern = h.other_pattern;
         differs = λ d. h.differ (d ∙ sym at);
-        before = λ m less p. h.alike_before m less p ∙ at;
+        before = λ m less p. h.alike_before m (omega arith) less p ∙ at;
       } in
       subst (TellsAgainst t n f g same label) (sym like.1) least
   | inr other ↦
@@ -272,7 +276,7 @@ places_few (m ∷ members) set =
 -- where the kept tallies of the facets tell of all labels, what they say of a label is the least label against it
 end_law : (t : Table) (facets : List Facet) (f g : ℕ) (same : Bool) (label : ℕ) (tallies : List FaceTally) (here there : Facet) (answer : Option ℕ)
     → IsDimension t.dimension → HasDimension t.kind t.dimension
-    → TellLabels t (label_count t.kind t.dimension) facets → IsFacetOf t.kind t.dimension f here → there ≡ get_or facets g there
+    → TellLabels t 0 (label_count t.kind t.dimension) facets → IsFacetOf t.kind t.dimension f here → there ≡ get_or facets g there
     → g < facet_count t.kind t.dimension
     → length (facet_corners t.kind t.dimension f) ≡ length (facet_corners t.kind t.dimension g)
     → face_places t.kind t.dimension f ≡ face_places t.kind t.dimension g
@@ -283,8 +287,8 @@ end_law t facets f g same label tallies here there answer is has tell facet read
     let p = pattern t.kind t.dimension f label in
     let on : pattern_on here label ≡ p = ap (λ (l : List ℕ). places l label) facet.corners in
     let few : p < 2 ^ length (facet_corners t.kind t.dimension g) = subst (λ k. p < 2 ^ k) wide (places_few (facet_corners t.kind t.dimension f) label) in
-    let known : TellsPattern t n g p (seen_at there p) (tallies_at there p) =
-    subst (λ (x : Facet). TellsPattern t n g p (seen_at x p) (tallies_at x p)) (sym read) (tell g p there in_g few) in
+    let known : TellsPattern t 0 n g p (seen_at there p) (tallies_at there p) =
+    subst (λ (x : Facet). TellsPattern t 0 n g p (seen_at x p) (tallies_at x p)) (sym read) (tell g p there in_g few) in
     let more : TellTrace t.kind t.dimension f (entry_of t label) (tallies_on here tallies) =
     record { tallies = tallies; are_tallies = are; kept_are = ap (λ (l : List ℕ). tallies_in l tallies) facet.edges } in
     told_against t n f g same label (tallies_on here tallies) (seen_at there p) (tallies_at there p) answer is has e more known
@@ -305,7 +309,7 @@ pub record IsSeam (kind : Kind) (d : ℕ) (facets : List Facet) (s : Seam) (x y 
 -- what the kept tallies of the two facets of a seam say of a label at its ends
 abbrev pub SeamLaw : Table → List Facet → ℕ → List FaceTally → Seam → Facet → Facet → Option ℕ → Option ℕ → Kind → ℕ → Type 0
 SeamLaw t facets label tallies s x y one two kind d =
-    IsDimension d → HasDimension kind d → TellLabels t (label_count kind d) facets → IsSeam kind d facets s x y → AreTallies d (entry_of t label) tallies
+    IsDimension d → HasDimension kind d → TellLabels t 0 (label_count kind d) facets → IsSeam kind d facets s x y → AreTallies d (entry_of t label) tallies
     → (IsAgainstAt s.same_parity label tallies x y one → TellsForwards t label s one)
     × (IsAgainstAt s.same_parity label tallies y x two → TellsBackwards t label s two)
 

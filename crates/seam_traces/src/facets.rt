@@ -1,7 +1,8 @@
 //! A facet of a cell, and what is kept of the labels that were taken.
 
-ghost use Rattle.std.specs.Prelude.{◌≡◌, ℕ, ◌^◌, ◌<◌, ◌≤◌, length, slice_index_or, All, IfOk, OnOk};
+ghost use Rattle.std.specs.Prelude.{◌≡◌, ◌↔◌, ℕ, ◌^◌, ◌<◌, ◌≤◌, length, slice_index_or, All, IfOk, OnOk, IsTrue};
 ghost use Rattle.seam_traces.specs.Kept.{seen_at, IsSound, TakesLabel, IsAgainstAt, IsFacetOf, AreFacetsOf, EachTakesLabel};
+ghost use Rattle.seam_traces.specs.Kept.{joined, TakesPattern, TakesLater, EachTakesLater, HasSamePatterns, HaveSamePatterns};
 
 use crate::places::{members_of, places_of, push};
 use crate::walks::{are_across, tallies_in};
@@ -9,6 +10,7 @@ use cell_lattice::Cell;
 use face_tallies::FaceTally;
 use iso_base::Memory;
 use std::alloc::Global;
+use std::mem::swap;
 
 /// How the labels with a pattern on a facet compare.
 #[derive(Clone, Copy, Debug, PartialEq, Eq)]
@@ -68,6 +70,30 @@ impl Facet {
         Ok(())
     }
 
+    /// Takes what the same facet kept of later labels.
+    fn add_later(&mut self, later: &mut Facet)
+        requires { HasSamePatterns self.old later.old }
+        ensures { TakesLater self.old later.old self.new }
+    {
+        for pattern in 0..self.seen.len() {
+            self.add_pattern(later, pattern);
+        }
+    }
+
+    /// Takes what the same facet kept of later labels with a pattern.
+    fn add_pattern(&mut self, later: &mut Facet, pattern: usize)
+        requires patterns { HasSamePatterns self.old later.old }
+        requires inside { pattern < length self.old.seen.items }
+        ensures { TakesPattern pattern self.old later.old self.new later.new }
+    {
+        let earlier = self.seen[pattern];
+        let same = are_same(&self.traces[pattern], &later.traces[pattern]);
+        self.seen[pattern] = joined(earlier, later.seen[pattern], same);
+        if let Seen::Never = earlier {
+            swap(&mut self.traces[pattern], &mut later.traces[pattern]);
+        }
+    }
+
     /// The least label with the pattern of a label on another facet whose trace on this facet does not correspond to its
     /// own trace there.
     pub(crate) fn least_against(
@@ -100,6 +126,31 @@ impl Facet {
             Some(first)
         }
     }
+}
+
+/// How the labels with a pattern compare, where some compare as `earlier` says and later ones as `later`; `same` says
+/// whether the first labels of both have one trace.
+fn joined(earlier: Seen, later: Seen, same: bool) -> Seen
+    ensures { result ≡ joined earlier later same }
+{
+    match (earlier, later) {
+        (Seen::Never, _) => later,
+        (Seen::Alike { first }, Seen::Alike { first: next }) if !same => {
+            Seen::Unlike { first, other: next }
+        }
+        (Seen::Alike { first }, Seen::Unlike { first: next, other }) => Seen::Unlike {
+            first,
+            other: if same { other } else { next },
+        },
+        _ => earlier,
+    }
+}
+
+/// Whether two lists of tallies are the same.
+fn are_same(tallies: &[FaceTally], others: &[FaceTally]) -> bool
+    ensures { IsTrue result ↔ (tallies.now ≡ others.now) }
+{
+    tallies == others
 }
 
 /// What is seen of so many patterns before the first label.
@@ -173,4 +224,14 @@ pub(crate) fn add_label(
         facet.add(alloc, label, tallies)?;
     }
     Ok(())
+}
+
+/// Each facet takes what the same one kept of later labels.
+pub(crate) fn add_later(facets: &mut [Facet], later: &mut [Facet])
+    requires { HaveSamePatterns facets.old later.old }
+    ensures { EachTakesLater facets.old later.old facets.new }
+{
+    for number in 0..facets.len() {
+        facets[number].add_later(&mut later[number]);
+    }
 }

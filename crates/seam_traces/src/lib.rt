@@ -14,10 +14,12 @@
 mod clashes;
 mod facets;
 mod places;
+mod run_traces;
 mod seams;
 mod table_traces;
 mod walks;
 
 pub use clashes::Clash;
+pub use run_traces::RunTraces;
 pub use seams::{FacetSeam, cell_seams};
 pub use table_traces::Traces;

@@ -4,13 +4,14 @@ ghost use Rattle.std.specs.Prelude.{◌≡◌, ◌<◌, slice_index_or, IfOk};
 ghost use Rattle.iso_model.specs.Acceptance.{rule_seams};
 ghost use Rattle.seam_traces.specs.Clashes.{TellsClash, TellsClashAt};
 ghost use Rattle.seam_traces.specs.SeamLists.{seam_of, seams_of, IsSeamOf, AreSeamsOf};
-ghost use Rattle.seam_traces.specs.Kept.{TellTable, InTables, IsSound, IsFacetOf};
+ghost use Rattle.seam_traces.specs.Kept.{TellTable, InTables, IsSound, IsFacetOf, AreFacetsOf};
 
 use crate::clashes::Clash;
-use crate::facets::{Facet, add_label, facets_of};
+use crate::facets::Facet;
+use crate::run_traces::RunTraces;
 use crate::seams::FacetSeam;
 use cell_lattice::Cell;
-use face_tallies::{FaceTally, TallyRoom, tally};
+use face_tallies::FaceTally;
 use iso_base::Memory;
 use std::alloc::Global;
 use std::marker::{Model, PhantomData};
@@ -42,17 +43,19 @@ impl<C: Cell<D>, const D: usize> Traces<C, D> {
         requires { table.now.kind ≡ C.KIND }
         ensures { IfOk result (λ traces. TellTable C.KIND D table.now traces) }
     {
-        let mut facets = facets_of::<C, D>(alloc)?;
-        let mut room = TallyRoom::new(alloc);
-        let mut tallies = Vec::new(alloc);
-        for label in 0..table.labels() {
-            tally(table.tuples(label), &mut room, &mut tallies)?;
-            add_label(alloc, &mut facets, label, &tallies)?;
-        }
-        Ok(Traces {
-            facets,
+        let all = RunTraces::gather::<C, D>(alloc, table, 0, table.labels())?;
+        Ok(Traces::of_run(all))
+    }
+
+    /// The traces of a run of labels, for the cell of which they are.
+    pub fn of_run(run: RunTraces) -> Traces<C, D>
+        requires { AreFacetsOf C.KIND D run }
+        ensures { result ≡ run }
+    {
+        Traces {
+            facets: run.into_facets(),
             cell: PhantomData,
-        })
+        }
     }
 
     /// Whether a label keeps the rule over these seams in the table of which these are the traces. `tallies` are those of
