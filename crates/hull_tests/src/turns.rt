@@ -40,10 +40,7 @@ fn turns_of_known_determinants(rt: HostRuntime) {
 
 #[test]
 fn half_spaces_through_points(rt: HostRuntime) {
-    for (points, normal, bound) in [
-        ([[0, 0], [2, 0]], [0, 2], 0),
-        ([[2, 1], [2, 1]], [0, 0], 0),
-    ] {
+    for (points, normal, bound) in [([[0, 0], [2, 0]], [0, 2], 0), ([[2, 1], [2, 1]], [0, 0], 0)] {
         assert_eq!(rt; hyper(&points), HalfSpace { normal, bound });
     }
     let far = hyper(&[[32, -32, 32], [-32, 32, 32], [32, 32, -32]]);

@@ -2,8 +2,8 @@
 
 ghost use Rattle.std.specs.Prelude.{◌^◌, ◌≤◌, ◌≤ℤ◌, ◌-ℤ◌, unsigned_abs};
 
-use edge_spectrum::spectrum;
 use cell_lattice::{CubeCell, PyramidCell, SimplexCell};
+use edge_spectrum::spectrum;
 use grid_split::{Complex, Split};
 use nrrd_raw::Grid;
 use std::alloc::Global;

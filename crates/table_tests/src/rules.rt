@@ -1,7 +1,7 @@
 //! Rules on entries of the square, by its table.
 
-use label_rules::Figures;
 use cell_lattice::CubeCell;
+use label_rules::Figures;
 
 #[test]
 fn rules_of_the_square(rt: HostRuntime) {
