@@ -5,8 +5,6 @@
 #[cfg(test)]
 mod checks;
 #[cfg(test)]
-mod edge_sets;
-#[cfg(test)]
 mod making;
 #[cfg(test)]
 mod paths;
@@ -14,5 +12,7 @@ mod paths;
 mod rules;
 #[cfg(test)]
 mod seams;
+#[cfg(test)]
+mod sets;
 #[cfg(test)]
 mod tallies;
