@@ -8,7 +8,7 @@ use Rattle.lists.specs.Orders.{same_list}
 use Rattle.std.proofs.lemmas.List.Sums.{AllPass-from_list_all}
 use Rattle.iso_model.specs.declared.Kind.TheVariants.{Cube, Simplex, Pyramid}
 use Rattle.iso_commands.specs.Commands.{is_number, has_key_of, IsNumber, Say, IsWrongWord, Command, generate_command, check_command, extract_command}
-use Rattle.iso_commands.specs.Commands.{demo_command, convert_command, audit_command, each_command, size_limit, iso_limit}
+use Rattle.iso_commands.specs.Commands.{demo_command, convert_command, audit_command, spectrum_command, each_command, size_limit, iso_limit}
 
 leading_zero : IsFalse (is_number (codes "05"))
 leading_zero = refl
@@ -83,6 +83,7 @@ padded_never more (generate_command kind d) s = another refl s.are_for.named.1
 padded_never more (check_command table) s = another refl s.are_for.named.1
 padded_never more (convert_command table) s = another refl s.are_for.named.1
 padded_never more (audit_command mesh) s = another refl s.are_for.named.1
+padded_never more (spectrum_command kind grid from to) s = another refl s.are_for.named.1
 padded_never more (demo_command kind d size seed) s = another refl s.are_for.named.1
 padded_never more (extract_command table grid iso) s =
     let e = head_same _ _ _ _ s.iso_is.1 in
@@ -117,6 +118,7 @@ large_never more (generate_command kind d) s = another refl s.are_for.named.1
 large_never more (check_command table) s = another refl s.are_for.named.1
 large_never more (convert_command table) s = another refl s.are_for.named.1
 large_never more (audit_command mesh) s = another refl s.are_for.named.1
+large_never more (spectrum_command kind grid from to) s = another refl s.are_for.named.1
 large_never more (extract_command table grid iso) s = another refl s.are_for.named.1
 large_never more (demo_command Cube d size seed) s = absurd (omega (arith, ap (λ (l : List ℕ). slice_index l 0) (head_same _ _ _ _ s.kind_is)))
 large_never more (demo_command Simplex d size seed) s = absurd (omega (arith, ap (λ (l : List ℕ). slice_index l 0) (head_same _ _ _ _ s.kind_is)))
@@ -151,6 +153,7 @@ nothing_never (generate_command kind d) s = let e = s.are_for.named.1 in cc
 nothing_never (check_command table) s = let e = s.are_for.named.1 in cc
 nothing_never (convert_command table) s = let e = s.are_for.named.1 in cc
 nothing_never (audit_command mesh) s = let e = s.are_for.named.1 in cc
+nothing_never (spectrum_command kind grid from to) s = let e = s.are_for.named.1 in cc
 nothing_never (demo_command kind d size seed) s = let e = s.are_for.named.1 in cc
 nothing_never (extract_command table grid iso) s = let e = s.are_for.named.1 in cc
 
@@ -170,6 +173,7 @@ early_never (generate_command kind d) s = another refl s.are_for.named.1
 early_never (check_command table) s = another refl s.are_for.named.1
 early_never (convert_command table) s = another refl s.are_for.named.1
 early_never (audit_command mesh) s = another refl s.are_for.named.1
+early_never (spectrum_command kind grid from to) s = another refl s.are_for.named.1
 early_never (demo_command kind d size seed) s = another refl s.are_for.named.1
 early_never (extract_command table grid iso) s = absurd (omega (arith, ap length s.iso_is.1))
 
@@ -189,6 +193,7 @@ great_never more (generate_command kind d) s = another refl s.are_for.named.1
 great_never more (check_command table) s = another refl s.are_for.named.1
 great_never more (convert_command table) s = another refl s.are_for.named.1
 great_never more (audit_command mesh) s = another refl s.are_for.named.1
+great_never more (spectrum_command kind grid from to) s = another refl s.are_for.named.1
 great_never more (demo_command kind d size seed) s = another refl s.are_for.named.1
 great_never more (extract_command table grid iso) s =
     let v = ap (signed_digits_value 10) (head_same _ _ _ _ s.iso_is.1) ∙ s.iso_is.2.1 in
@@ -210,6 +215,7 @@ flat_never : (more : List (List ℕ)) (c : Command) → Say (flat_words ++ more)
 flat_never more (check_command table) s = another refl s.are_for.named.1
 flat_never more (convert_command table) s = another refl s.are_for.named.1
 flat_never more (audit_command mesh) s = another refl s.are_for.named.1
+flat_never more (spectrum_command kind grid from to) s = another refl s.are_for.named.1
 flat_never more (extract_command table grid iso) s = another refl s.are_for.named.1
 flat_never more (demo_command kind d size seed) s = another refl s.are_for.named.1
 flat_never more (generate_command Cube d) s = absurd (omega (arith, ap (λ (l : List ℕ). slice_index l 0) (head_same _ _ _ _ s.kind_is)))
@@ -231,4 +237,42 @@ flat_word = record {
   counted = omega arith;
   before = (codes "kind=cube" ∷ [], (generate_command Cube 2, refl, square_right));
   wrong = inl (omega arith, λ b. flat_never b.0 b.1.0 b.1.2);
+}
+
+-- the last isovalue is below the first, though the first one was given behind it
+abbrev falling_words : List (List ℕ)
+falling_words = codes "spectrum" ∷ codes "to=4" ∷ codes "from=5" ∷ []
+
+falling_never : (more : List (List ℕ)) (c : Command) → Say (falling_words ++ more) c → ⊥
+falling_never more (generate_command kind d) s = another refl s.are_for.named.1
+falling_never more (check_command table) s = another refl s.are_for.named.1
+falling_never more (convert_command table) s = another refl s.are_for.named.1
+falling_never more (audit_command mesh) s = another refl s.are_for.named.1
+falling_never more (extract_command table grid iso) s = another refl s.are_for.named.1
+falling_never more (demo_command kind d size seed) s = another refl s.are_for.named.1
+falling_never more (spectrum_command kind grid from to) s =
+    let first : pos 5 ≡ from = ap (signed_digits_value 10) (head_same _ _ _ _ s.from_is.1) ∙ s.from_is.2.1 in
+    let last : pos 4 ≡ to = ap (signed_digits_value 10) (head_same _ _ _ _ s.to_is.1) ∙ s.to_is.2.1 in
+    let l : pos 5 ≤ℤ pos 4 = subst (λ (n : ℤ). n ≤ℤ pos 4) (sym first) (subst (λ (n : ℤ). from ≤ℤ n) (sym last) s.range.0) in
+    absurd (omega (arith, l))
+
+alone_right : Say (codes "spectrum" ∷ codes "to=4" ∷ codes "from=4" ∷ codes "grid=a" ∷ codes "kind=cube" ∷ []) (spectrum_command Cube (codes "a") (pos 4) (pos 4))
+alone_right = record {
+  are_for = record { named = (_, refl); keyed = AllPass-from_list_all (has_key_of (codes "kind" ∷ codes "grid" ∷ codes "from" ∷ codes "to" ∷ [])) (codes "to=4" ∷ codes "from=4" ∷ codes "grid=a" ∷ codes "kind=cube" ∷ []) refl };
+  kind_is = refl;
+  grid_is = (refl, λ e. cc);
+  from_is = (_, refl, (refl, refl));
+  from_low = omega arith;
+  from_high = omega arith;
+  to_is = (_, refl, (refl, refl));
+  to_low = omega arith;
+  to_high = omega arith;
+  range = (omega arith, omega arith);
+}
+
+falling_word : IsWrongWord each_command falling_words 3
+falling_word = record {
+  counted = omega arith;
+  before = (codes "from=4" ∷ codes "grid=a" ∷ codes "kind=cube" ∷ [], (spectrum_command Cube (codes "a") (pos 4) (pos 4), refl, alone_right));
+  wrong = inl (omega arith, λ b. falling_never b.0 b.1.0 b.1.2);
 }

@@ -1,5 +1,5 @@
 -- The words of the program: the right lists of words, what they ask for, and the first wrong word.
-use Rattle.std.specs.Prelude.{◌≡◌, ◌≢◌, ◌⊎◌, ℕ, ◌+◌, ◌-◌, ◌^◌, ◌≤◌, ℤ, pos, neg_ℤ, ◌≤ℤ◌, Bool, true, not, ◌&&◌, ◌||◌, ◌==◌, nat_eq, List, [], ◌∷◌}
+use Rattle.std.specs.Prelude.{◌≡◌, ◌≢◌, ◌⊎◌, ℕ, ◌+◌, ◌-◌, ◌^◌, ◌≤◌, ℤ, pos, neg_ℤ, ◌≤ℤ◌, ◌-ℤ◌, unsigned_abs, Bool, true, not, ◌&&◌, ◌||◌, ◌==◌, nat_eq, List, [], ◌∷◌}
 use Rattle.std.specs.Prelude.{◌++◌, filter_map, length, take, drop, slice_index, Option, Some, None, IsTrue, codes, if◌then◌else◌}
 use Rattle.std.specs.List.{AllPass, list_any, before_first, after_first}
 use Rattle.std.specs.Str.{all_ascii_digits}
@@ -62,6 +62,7 @@ pub data Command : Type 0 where
   demo_command : Kind → ℕ → ℕ → ℕ → Command
   convert_command : List ℕ → Command
   audit_command : List ℕ → Command
+  spectrum_command : Kind → List ℕ → ℤ → ℤ → Command
 
 -- the word of a kind
 abbrev pub kind_name : Kind → List ℕ
@@ -76,6 +77,10 @@ size_limit d = if d == 2 then 256 else if d == 3 then 64 else 16
 -- isovalues lie from -2^40 to 2^40
 abbrev pub iso_limit : ℕ
 iso_limit = 2 ^ 40
+
+-- a range of isovalues, from one up to another that is not below it: there are at most 65,536
+abbrev pub IsRange : ℤ → ℤ → Type 0
+IsRange from to = (from ≤ℤ to) × (unsigned_abs (to -ℤ from) + 1 ≤ 65536)
 
 -- each key of a command stands exactly once, in any order
 
@@ -122,6 +127,19 @@ pub record SayAudit (words : List (List ℕ)) (mesh : List ℕ) : Type 0 where
   pub are_for : AreFor words (codes "audit") (codes "mesh" ∷ [])
   pub mesh_is : GivesFile words (codes "mesh") mesh
 
+-- the words of spectrum
+pub record SaySpectrum (words : List (List ℕ)) (kind : Kind) (grid : List ℕ) (from to : ℤ) : Type 0 where
+  pub are_for : AreFor words (codes "spectrum") (codes "kind" ∷ codes "grid" ∷ codes "from" ∷ codes "to" ∷ [])
+  pub kind_is : Gives words (codes "kind") (kind_name kind)
+  pub grid_is : GivesFile words (codes "grid") grid
+  pub from_is : GivesNumber words (codes "from") from
+  pub from_low : neg_ℤ (pos iso_limit) ≤ℤ from
+  pub from_high : from ≤ℤ pos iso_limit
+  pub to_is : GivesNumber words (codes "to") to
+  pub to_low : neg_ℤ (pos iso_limit) ≤ℤ to
+  pub to_high : to ≤ℤ pos iso_limit
+  pub range : IsRange from to
+
 -- the words say the command
 abbrev pub Say : List (List ℕ) → Command → Type 0
 Say words (generate_command kind d) = SayGenerate words kind d
@@ -130,6 +148,7 @@ Say words (extract_command table grid iso) = SayExtract words table grid iso
 Say words (demo_command kind d size seed) = SayDemo words kind d size seed
 Say words (convert_command table) = SayConvert words table
 Say words (audit_command mesh) = SayAudit words mesh
+Say words (spectrum_command kind grid from to) = SaySpectrum words kind grid from to
 
 -- ---- right lists, for a program that has some of the commands
 

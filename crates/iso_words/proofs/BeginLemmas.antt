@@ -1,7 +1,7 @@
 -- Words that gave right values so far go on to a right list: each missing key is given a value.
 use Rattle.std.proofs.Common.{◌≡◌, ℕ, Bool, true, false, cond, ◌&&◌, List, [], ◌∷◌, ◌++◌, Option, Some, None, refl, sym, ◌∙◌, ap, subst, arith}
 use Rattle.std.proofs.lemmas.Int.{ints}
-use Rattle.std.specs.Prelude.{pos, codes, ◌==◌, ◌≤◌}
+use Rattle.std.specs.Prelude.{ℤ, pos, codes, ◌==◌, ◌≤◌}
 use Rattle.std.specs.List.{AllPass, cons_option, list_all}
 use Rattle.std.specs.Option.{is_some, option_copied}
 use Rattle.std.proofs.lemmas.Bool.{and_parts}
@@ -12,20 +12,20 @@ use Rattle.iso_model.specs.declared.Kind.{Kind as CellKind}
 use Rattle.iso_model.specs.declared.Kind.TheVariants.{Cube, Simplex, Pyramid}
 use Rattle.iso_model.specs.Cells.{HasDimension}
 use Rattle.iso_commands.specs.Commands.{value_for, generate_command, check_command, extract_command, demo_command, convert_command, audit_command}
-use Rattle.iso_commands.specs.Commands.{has_key_of, size_limit, BeginRight}
+use Rattle.iso_commands.specs.Commands.{spectrum_command, has_key_of, size_limit, BeginRight, IsRange}
 use Rattle.iso_words.specs.declared.keys.CommandName.{CommandName}
-use Rattle.iso_words.specs.declared.keys.CommandName.TheVariants.{Generate, Check, Extract, Demo, Convert, Audit}
+use Rattle.iso_words.specs.declared.keys.CommandName.TheVariants.{Generate, Check, Extract, Demo, Convert, Audit, Spectrum}
 use Rattle.iso_words.specs.declared.given.Given.{Given}
 use Rattle.iso_words.specs.Built.{is_built}
 use Rattle.iso_words.specs.declared.keys.Key.{Key}
-use Rattle.iso_words.specs.declared.keys.Key.TheVariants.{Kind, Dim, Size, Seed, Table, Grid, Iso, Mesh}
+use Rattle.iso_words.specs.declared.keys.Key.TheVariants.{Kind, Dim, Size, Seed, Table, Grid, Iso, Mesh, From, To}
 use Rattle.iso_words.specs.Keys.{key_text, name_text, keys_of, has_key}
 use Rattle.lists.specs.Orders.{same_list}
 use Rattle.lists.proofs.MemberLaws.{lists_equal}
 use Rattle.iso_words.proofs.KeyLemmas.{value_for-other, has_key_of-key}
-use Rattle.iso_words.specs.Given.{IsKind, IsDimension, IsSize, IsSeed, IsFile, IsIsovalue, widest, Fit, values_of, Stood, Gave}
+use Rattle.iso_words.specs.Given.{IsKind, IsDimension, IsSize, IsSeed, IsFile, IsIsovalue, widest, Fit, InOrder, values_of, Stood, Gave}
 use Rattle.iso_words.proofs.StoodLemmas.{values_of-append}
-use Rattle.iso_words.proofs.RightLemmas.{SayGenerate-given, SayCheck-given, SayExtract-given, SayDemo-given, SayConvert-given, SayAudit-given}
+use Rattle.iso_words.proofs.RightLemmas.{SayGenerate-given, SayCheck-given, SayExtract-given, SayDemo-given, SayConvert-given, SayAudit-given, SaySpectrum-given}
 
 -- a word for a key that is missing
 abbrev fill : Bool → List ℕ → List (List ℕ)
@@ -64,6 +64,8 @@ word_of-value Table text = refl
 word_of-value Grid text = refl
 word_of-value Iso text = refl
 word_of-value Mesh text = refl
+word_of-value From text = refl
+word_of-value To text = refl
 
 fill_values : (k : Key) (given : Bool) (text key : List ℕ)
     → values_of key (fill given (word_of k text)) ≡ cond (same_list (key_text k) key) (fill given text) []
@@ -234,6 +236,51 @@ begin_audit further given g =
     (after_fills IsFile mesh (codes "mesh") rows further (codes "a") (codes "a") a_file (append-nil _) (g.stood Mesh)) in
     (fills rows, (audit_command (standing mesh (codes "a")), refl, said))
 
+-- ---- ranges
+
+-- the end of a range whose other end has this value, or none: the same
+abbrev other_end : Option ℤ → ℤ
+other_end None = pos 0
+other_end (Some n) = n
+
+-- and its text
+other_text : (o : Option ℤ) (values : List (List ℕ)) → Stood IsIsovalue o values → (text : List ℕ) × IsIsovalue text (other_end o)
+other_text None values s = (codes "0", an_isovalue)
+other_text (Some n) values s = (s.0, s.2)
+
+-- one isovalue is a range
+one_isovalue : (n : ℤ) → IsRange n n
+one_isovalue n = (omega (arith, ints), omega (arith, ints))
+
+standing_range : (from to : Option ℤ) → InOrder from to → IsRange (standing from (other_end to)) (standing to (other_end from))
+standing_range None None ordered = one_isovalue (pos 0)
+standing_range None (Some to) ordered = one_isovalue to
+standing_range (Some from) None ordered = one_isovalue from
+standing_range (Some from) (Some to) ordered = ordered
+
+begin_spectrum : (further : List (List ℕ)) (given : Given) → Gave Spectrum further given → BeginRight is_built (codes "spectrum" ∷ further)
+begin_spectrum further given g =
+    let first = other_text given.to (values_of (codes "to") further) (g.stood To) in
+    let last = other_text given.from (values_of (codes "from") further) (g.stood From) in
+    let grid = option_copied given.grid in
+    let rows =
+    (Kind, is_some given.kind, codes "cube")
+    ∷ (Grid, is_some grid, codes "a")
+    ∷ (From, is_some given.from, first.0)
+    ∷ (To, is_some given.to, last.0)
+    ∷ [] in
+    let kind = standing given.kind Cube in
+    let from = standing given.from (other_end given.to) in
+    let to = standing given.to (other_end given.from) in
+    let said =
+    SaySpectrum-given (further ++ fills rows) kind (standing grid (codes "a")) from to (keyed_on Spectrum rows further refl g.keyed)
+    (after_fills IsKind given.kind (codes "kind") rows further (codes "cube") Cube refl (append-nil _) (g.stood Kind))
+    (after_fills IsFile grid (codes "grid") rows further (codes "a") (codes "a") a_file (append-nil _) (g.stood Grid))
+    (after_fills IsIsovalue given.from (codes "from") rows further first.0 (other_end given.to) first.1 (append-nil _) (g.stood From))
+    (after_fills IsIsovalue given.to (codes "to") rows further last.0 (other_end given.from) last.1 (append-nil _) (g.stood To))
+    (standing_range given.from given.to g.ordered) in
+    (fills rows, (spectrum_command kind (standing grid (codes "a")) from to, refl, said))
+
 -- some right list begins with the name of a command and words that gave right values
 pub BeginRight-given : (name : CommandName) (further : List (List ℕ)) (given : Given) → Gave name further given → BeginRight is_built (name_text name ∷ further)
 BeginRight-given Generate further given g = begin_generate further given g
@@ -242,3 +289,4 @@ BeginRight-given Extract further given g = begin_extract further given g
 BeginRight-given Demo further given g = begin_demo further given g
 BeginRight-given Convert further given g = begin_convert further given g
 BeginRight-given Audit further given g = begin_audit further given g
+BeginRight-given Spectrum further given g = begin_spectrum further given g

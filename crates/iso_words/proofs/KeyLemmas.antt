@@ -7,9 +7,9 @@ use Rattle.std.proofs.lemmas.Slice.Eq.{bytes_eq-Decides}
 use Rattle.lists.specs.Orders.{has, same_list}
 use Rattle.iso_commands.specs.Commands.{value_for, has_key_of}
 use Rattle.iso_words.specs.declared.keys.Key.{Key}
-use Rattle.iso_words.specs.declared.keys.Key.TheVariants.{Kind, Dim, Size, Seed, Table, Grid, Iso, Mesh}
+use Rattle.iso_words.specs.declared.keys.Key.TheVariants.{Kind, Dim, Size, Seed, Table, Grid, Iso, Mesh, From, To}
 use Rattle.iso_words.specs.declared.keys.CommandName.{CommandName}
-use Rattle.iso_words.specs.declared.keys.CommandName.TheVariants.{Generate, Check, Extract, Demo, Convert, Audit}
+use Rattle.iso_words.specs.declared.keys.CommandName.TheVariants.{Generate, Check, Extract, Demo, Convert, Audit, Spectrum}
 use Rattle.iso_words.specs.Keys.{key_text, name_text, own_keys, keys_of, has_key}
 
 some_test : {A : Type 0} (t : Bool) (x v : A) → cond t (Some x) None ≡ Some v → t ≡ true
@@ -88,6 +88,8 @@ every_key =
     ∷ Grid
     ∷ Iso
     ∷ Mesh
+    ∷ From
+    ∷ To
     ∷ []
 
 key_found : (key : Key) → with_word key_text (key_text key) every_key ≡ Some key
@@ -99,6 +101,8 @@ key_found Table = refl
 key_found Grid = refl
 key_found Iso = refl
 key_found Mesh = refl
+key_found From = refl
+key_found To = refl
 
 pub key_text-one : (k l : Key) → key_text k ≡ key_text l → k ≡ l
 key_text-one = one_word key_text every_key key_found
@@ -111,6 +115,7 @@ every_name =
     ∷ Demo
     ∷ Convert
     ∷ Audit
+    ∷ Spectrum
     ∷ []
 
 name_found : (name : CommandName) → with_word name_text (name_text name) every_name ≡ Some name
@@ -120,6 +125,7 @@ name_found Extract = refl
 name_found Demo = refl
 name_found Convert = refl
 name_found Audit = refl
+name_found Spectrum = refl
 
 pub name_text-one : (m n : CommandName) → name_text m ≡ name_text n → m ≡ n
 name_text-one = one_word name_text every_name name_found

@@ -1,13 +1,13 @@
--- Kinds, dimensions and sizes that were given: a text says one, and they go together.
+-- Kinds, dimensions and sizes that were given, and the ends of a range: a text says one, and they go together.
 use Rattle.std.proofs.Common.{◌≡◌, ℕ, ◌≤◌, Bool, true, false, cond, List, Option, Some, None, refl, sym, ◌∙◌, ap, subst, arith}
-use Rattle.std.specs.Prelude.{pos, codes, ◌==◌, ⊤}
+use Rattle.std.specs.Prelude.{ℤ, pos, codes, ◌==◌, ⊤}
 use Rattle.std.proofs.lemmas.Bool.{true≢false}
 use Rattle.lists.specs.Orders.{same_list}
 use Rattle.iso_model.specs.declared.Kind.{Kind}
 use Rattle.iso_model.specs.declared.Kind.TheVariants.{Cube, Simplex, Pyramid}
 use Rattle.iso_model.specs.Cells.{HasDimension}
-use Rattle.iso_commands.specs.Commands.{kind_name, size_limit}
-use Rattle.iso_words.specs.Given.{IsKind, IsDimension, IsSize, HasGiven, widest, Fit}
+use Rattle.iso_commands.specs.Commands.{IsRange, kind_name, size_limit}
+use Rattle.iso_words.specs.Given.{IsKind, IsDimension, IsSize, IsIsovalue, HasGiven, InOrder, widest, Fit}
 
 pub kind_name-one : (k l : Kind) → kind_name k ≡ kind_name l → k ≡ l
 kind_name-one Cube Cube e = refl
@@ -32,6 +32,9 @@ IsDimension-one text m n e f = pos-one m n (sym e.0.1 ∙ f.0.1)
 pub IsSize-one : (text : List ℕ) (m n : ℕ) → IsSize text m → IsSize text n → m ≡ n
 IsSize-one text m n e f = pos-one m n (sym e.0.1 ∙ f.0.1)
 
+pub IsIsovalue-one : (text : List ℕ) (m n : ℤ) → IsIsovalue text m → IsIsovalue text n → m ≡ n
+IsIsovalue-one text m n e f = sym e.0.1 ∙ f.0.1
+
 -- ---- sizes
 
 pub size_limit-most : (d : ℕ) → size_limit d ≤ 256
@@ -52,26 +55,44 @@ Keeps (Some v) new = new ≡ Some v
 kept_some : {V : Type 0} (v w : V) → Keeps (Some v) (Some w) → v ≡ w
 kept_some v w e = cc
 
-has_given : (kind : Option Kind) (dim : Option ℕ) (k : Kind) (d : ℕ) → Keeps kind (Some k) → Keeps dim (Some d) → HasDimension k d → HasGiven kind dim
-has_given None dim k d ks ds h = tt
-has_given (Some l) None k d ks ds h = tt
-has_given (Some l) (Some n) k d ks ds h =
+kept_none : {V : Type 0} (v : V) → Keeps (Some v) None → ⊥
+kept_none v e = cc
+
+has_given : (kind : Option Kind) (dim last : Option ℕ) (k : Kind) → Keeps kind (Some k) → Keeps dim last → HasGiven (Some k) last → HasGiven kind dim
+has_given None dim last k ks ds h = tt
+has_given (Some l) None last k ks ds h = tt
+has_given (Some l) (Some n) None k ks ds h = absurd (kept_none n ds)
+has_given (Some l) (Some n) (Some d) k ks ds h =
     subst (λ (l : Kind). HasDimension l n) (sym (kept_some l k ks)) (subst (λ (n : ℕ). HasDimension k n) (sym (kept_some n d ds)) h)
 
--- no dimension has greater grids than the widest
-widest-most : (kind : Option Kind) (dim : Option ℕ) (k : Kind) (d : ℕ) → Keeps kind (Some k) → Keeps dim (Some d) → HasDimension k d
-    → size_limit d ≤ size_limit (widest kind dim)
-widest-most kind (Some n) k d ks ds h = subst (λ (m : ℕ). size_limit d ≤ size_limit m) (sym (kept_some n d ds)) (omega arith)
-widest-most None None k d ks ds h = size_limit-most d
-widest-most (Some Cube) None k d ks ds h = size_limit-most d
-widest-most (Some Simplex) None k d ks ds h = size_limit-most d
-widest-most (Some Pyramid) None k d ks ds h =
-    let three : d ≡ 3 = subst (λ (l : Kind). HasDimension l d) (sym (kept_some Pyramid k ks)) h in
-    rw three (omega arith)
+-- no dimension of a kind has greater grids than the widest
+widest_own : (k : Kind) (last : Option ℕ) → HasGiven (Some k) last → size_limit (widest (Some k) last) ≤ size_limit (widest (Some k) None)
+widest_own k None h = omega arith
+widest_own Cube (Some d) h = size_limit-most d
+widest_own Simplex (Some d) h = size_limit-most d
+widest_own Pyramid (Some d) h = let three : d ≡ 3 = h in rw three (omega arith)
 
-pub Fit-before : (kind : Option Kind) (dim size : Option ℕ) (k : Kind) (d : ℕ) (last : Option ℕ) → Keeps kind (Some k) → Keeps dim (Some d)
-    → Keeps size last → Fit (Some k) (Some d) last → Fit kind dim size
-Fit-before kind dim None k d last ks ds ns fits = (has_given kind dim k d ks ds fits.0, tt)
-Fit-before kind dim (Some n) k d last ks ds ns fits =
-    let small : n ≤ size_limit d = (subst (λ (o : Option ℕ). Fit (Some k) (Some d) o) ns fits).1 in
-    (has_given kind dim k d ks ds fits.0, omega (arith, small, widest-most kind dim k d ks ds fits.0))
+widest-most : (kind : Option Kind) (dim last : Option ℕ) (k : Kind) → Keeps kind (Some k) → Keeps dim last → HasGiven (Some k) last
+    → size_limit (widest (Some k) last) ≤ size_limit (widest kind dim)
+widest-most kind (Some n) None k ks ds h = absurd (kept_none n ds)
+widest-most kind (Some n) (Some d) k ks ds h = subst (λ (m : ℕ). size_limit d ≤ size_limit m) (sym (kept_some n d ds)) (omega arith)
+widest-most None None last k ks ds h = size_limit-most (widest (Some k) last)
+widest-most (Some l) None last k ks ds h =
+    subst (λ (m : Kind). size_limit (widest (Some k) last) ≤ size_limit (widest (Some m) None)) (sym (kept_some l k ks)) (widest_own k last h)
+
+pub Fit-before : (kind : Option Kind) (dim size : Option ℕ) (k : Kind) (last most : Option ℕ) → Keeps kind (Some k) → Keeps dim last
+    → Keeps size most → Fit (Some k) last most → Fit kind dim size
+Fit-before kind dim None k last most ks ds ns fits = (has_given kind dim last k ks ds fits.0, tt)
+Fit-before kind dim (Some n) k last most ks ds ns fits =
+    let small : n ≤ size_limit (widest (Some k) last) = (subst (λ (o : Option ℕ). Fit (Some k) last o) ns fits).1 in
+    (has_given kind dim last k ks ds fits.0, omega (arith, small, widest-most kind dim last k ks ds fits.0))
+
+-- ---- ranges
+
+pub InOrder-first : (from : ℤ) (to : Option ℤ) (last : ℤ) → Keeps to (Some last) → IsRange from last → InOrder (Some from) to
+InOrder-first from None last e range = tt
+InOrder-first from (Some to) last e range = subst (λ (n : ℤ). IsRange from n) (sym (kept_some to last e)) range
+
+pub InOrder-last : (from : Option ℤ) (to first : ℤ) → Keeps from (Some first) → IsRange first to → InOrder from (Some to)
+InOrder-last None to first e range = tt
+InOrder-last (Some from) to first e range = subst (λ (n : ℤ). IsRange n to) (sym (kept_some from first e)) range

@@ -6,7 +6,7 @@ use Rattle.std.proofs.lemmas.Bool.{false≢true, true≢false}
 use Rattle.iso_commands.specs.Commands.{AreRight}
 use Rattle.iso_words.specs.Built.{is_built}
 use Rattle.iso_words.specs.declared.keys.Key.{Key}
-use Rattle.iso_words.specs.declared.keys.Key.TheVariants.{Kind, Dim, Size, Seed, Table, Grid, Iso, Mesh}
+use Rattle.iso_words.specs.declared.keys.Key.TheVariants.{Kind, Dim, Size, Seed, Table, Grid, Iso, Mesh, From, To}
 use Rattle.iso_words.specs.declared.keys.CommandName.{CommandName}
 use Rattle.iso_words.specs.declared.given.Given.{Given}
 use Rattle.iso_words.specs.Keys.{key_text, name_text, own_keys}
@@ -34,6 +34,8 @@ missing Table given further s e once = no_file_stands given.table once.0 _ s e o
 missing Grid given further s e once = no_file_stands given.grid once.0 _ s e once.1
 missing Iso given further s e once = none_stands IsIsovalue given.iso once.0 _ s e once.1
 missing Mesh given further s e once = no_file_stands given.mesh once.0 _ s e once.1
+missing From given further s e once = none_stands IsIsovalue given.from once.0 _ s e once.2.froms
+missing To given further s e once = none_stands IsIsovalue given.to once.1 _ s e once.2.tos
 
 pub Lacks-wrong : (name : CommandName) (further : List (List ℕ)) (given : Given) → Gave name further given → Lacks name given
     → AreRight is_built (name_text name ∷ further) → ⊥

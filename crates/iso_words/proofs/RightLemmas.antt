@@ -8,43 +8,51 @@ use Rattle.std.proofs.lemmas.List.Sums.{list_all-from_AllPass}
 use Rattle.iso_model.specs.declared.Kind.{Kind as CellKind}
 use Rattle.iso_model.specs.Cells.{HasDimension}
 use Rattle.iso_commands.specs.Commands.{Command as Asked, generate_command, check_command, extract_command, demo_command, has_key_of, kind_name, Say, value_for}
-use Rattle.iso_commands.specs.Commands.{convert_command, audit_command}
-use Rattle.iso_commands.specs.Commands.{SayGenerate, SayCheck, SayExtract, SayDemo, SayConvert, SayAudit, AreRight, BeginRight}
+use Rattle.iso_commands.specs.Commands.{convert_command, audit_command, spectrum_command}
+use Rattle.iso_commands.specs.Commands.{SayGenerate, SayCheck, SayExtract, SayDemo, SayConvert, SayAudit, SaySpectrum, AreRight, BeginRight, IsRange}
 use Rattle.iso_words.specs.declared.keys.Key.{Key}
-use Rattle.iso_words.specs.declared.keys.Key.TheVariants.{Kind, Dim, Size, Seed, Table, Grid, Iso, Mesh}
+use Rattle.iso_words.specs.declared.keys.Key.TheVariants.{Kind, Dim, Size, Seed, Table, Grid, Iso, Mesh, From, To}
 use Rattle.iso_words.specs.declared.keys.CommandName.{CommandName}
-use Rattle.iso_words.specs.declared.keys.CommandName.TheVariants.{Generate, Check, Extract, Demo, Convert, Audit}
+use Rattle.iso_words.specs.declared.keys.CommandName.TheVariants.{Generate, Check, Extract, Demo, Convert, Audit, Spectrum}
 use Rattle.iso_words.specs.declared.given.Given.{Given}
 use Rattle.iso_words.specs.Built.{is_built}
 use Rattle.iso_words.specs.Keys.{key_text, name_text, own_keys, keys_of, has_key}
-use Rattle.iso_words.specs.Given.{IsKind, IsDimension, IsSize, IsSeed, IsFile, IsIsovalue, HasGiven, Fit, values_of, Stood, Gave}
+use Rattle.iso_words.specs.Given.{IsKind, IsDimension, IsSize, IsSeed, IsFile, IsIsovalue, HasGiven, Fit, InOrder, values_of, Stood, Gave}
 use Rattle.iso_words.specs.Given.{WereGiven, IsWhole, SayNamed, name_of}
 use Rattle.iso_words.specs.declared.Command.{Command}
 use Rattle.iso_words.specs.declared.Command.TheVariants.{Generate as generate, Check as check, Extract as extract, Demo as demo}
-use Rattle.iso_words.specs.declared.Command.TheVariants.{Convert as convert, Audit as audit}
+use Rattle.iso_words.specs.declared.Command.TheVariants.{Convert as convert, Audit as audit, Spectrum as spectrum}
 use Rattle.iso_model.proofs.DimensionLaws.{HasDimension-limits}
 use Rattle.iso_words.proofs.KindLemmas.{size_limit-most}
 use Rattle.iso_words.proofs.KeyLemmas.{has_key_of-some, key_text-one, name_text-one}
 use Rattle.lists.specs.Orders.{same_list}
 use Rattle.lists.proofs.MemberLaws.{lists_equal, same_head}
 
--- a kind and a dimension stand once each, and so does a size, or it does not stand; and they go together
-pub record StandTogether (kind : CellKind) (d : ℕ) (size : Option ℕ) (further : List (List ℕ)) : Type 0 where
+-- a kind stands once, and so do a dimension and a size, or they do not stand; and they go together
+pub record StandTogether (kind : CellKind) (dim size : Option ℕ) (further : List (List ℕ)) : Type 0 where
   pub kinds : Stood IsKind (Some kind) (values_of (codes "kind") further)
-  pub dims : Stood IsDimension (Some d) (values_of (codes "dim") further)
+  pub dims : Stood IsDimension dim (values_of (codes "dim") further)
   pub sizes : Stood IsSize size (values_of (codes "size") further)
-  pub fits : Fit (Some kind) (Some d) size
+  pub fits : Fit (Some kind) dim size
+
+-- both ends of a range stand once each
+pub record StandAsRange (from to : ℤ) (further : List (List ℕ)) : Type 0 where
+  pub froms : Stood IsIsovalue (Some from) (values_of (codes "from") further)
+  pub tos : Stood IsIsovalue (Some to) (values_of (codes "to") further)
+  pub range : IsRange from to
 
 -- a key stands once, with a value that it may have
 abbrev pub StandsOnce : Key → List (List ℕ) → Type 0
-StandsOnce Kind further = (kind : CellKind) × (d : ℕ) × (size : Option ℕ) × StandTogether kind d size further
-StandsOnce Dim further = (kind : CellKind) × (d : ℕ) × (size : Option ℕ) × StandTogether kind d size further
-StandsOnce Size further = (kind : CellKind) × (d : ℕ) × (n : ℕ) × StandTogether kind d (Some n) further
+StandsOnce Kind further = (kind : CellKind) × (dim : Option ℕ) × (size : Option ℕ) × StandTogether kind dim size further
+StandsOnce Dim further = (kind : CellKind) × (d : ℕ) × (size : Option ℕ) × StandTogether kind (Some d) size further
+StandsOnce Size further = (kind : CellKind) × (dim : Option ℕ) × (n : ℕ) × StandTogether kind dim (Some n) further
 StandsOnce Seed further = (n : ℕ) × Stood IsSeed (Some n) (values_of (codes "seed") further)
 StandsOnce Table further = (name : List ℕ) × Stood IsFile (Some name) (values_of (codes "table") further)
 StandsOnce Grid further = (name : List ℕ) × Stood IsFile (Some name) (values_of (codes "grid") further)
 StandsOnce Iso further = (n : ℤ) × Stood IsIsovalue (Some n) (values_of (codes "iso") further)
 StandsOnce Mesh further = (name : List ℕ) × Stood IsFile (Some name) (values_of (codes "mesh") further)
+StandsOnce From further = (from : ℤ) × (to : ℤ) × StandAsRange from to further
+StandsOnce To further = (from : ℤ) × (to : ℤ) × StandAsRange from to further
 
 -- what stands behind the name of a command in a right list
 pub record HasKeys (name : CommandName) (further : List (List ℕ)) : Type 0 where
@@ -59,6 +67,7 @@ Values Extract = List ℕ × List ℕ × ℤ
 Values Demo = CellKind × ℕ × ℕ × ℕ
 Values Convert = List ℕ
 Values Audit = List ℕ
+Values Spectrum = CellKind × List ℕ × ℤ × ℤ
 
 -- the command of a name with these values
 abbrev pub with_values : (name : CommandName) → Values name → Asked
@@ -68,6 +77,7 @@ with_values Extract (table, grid, iso) = extract_command table grid iso
 with_values Demo (kind, d, size, seed) = demo_command kind d size seed
 with_values Convert table = convert_command table
 with_values Audit mesh = audit_command mesh
+with_values Spectrum (kind, grid, from, to) = spectrum_command kind grid from to
 
 -- each command that is built has a name
 pub built_values : (c : Asked) → IsTrue (is_built c) → (name : CommandName) × (values : Values name) × (c ≡ with_values name values)
@@ -77,6 +87,7 @@ built_values (extract_command table grid iso) b = (Extract, (table, grid, iso), 
 built_values (demo_command kind d size seed) b = (Demo, (kind, d, size, seed), refl)
 built_values (convert_command table) b = (Convert, table, refl)
 built_values (audit_command mesh) b = (Audit, mesh, refl)
+built_values (spectrum_command kind grid from to) b = (Spectrum, (kind, grid, from, to), refl)
 
 -- the words that say it begin with this name
 pub begins_named : (name : CommandName) (values : Values name) (words : List (List ℕ)) → Say words (with_values name values)
@@ -87,6 +98,7 @@ begins_named Extract values words s = s.are_for.named
 begins_named Demo values words s = s.are_for.named
 begins_named Convert values words s = s.are_for.named
 begins_named Audit values words s = s.are_for.named
+begins_named Spectrum values words s = s.are_for.named
 
 pub begins-one : (m n : CommandName) (values : Values n) (words further : List (List ℕ)) → words ≡ name_text m ∷ further → Say words (with_values n values) → m ≡ n
 begins-one m n values words further e s =
@@ -109,13 +121,13 @@ no_values keys key (word ∷ further) apart all =
 has_keys : (name : CommandName) (values : Values name) (further : List (List ℕ)) → Say (name_text name ∷ further) (with_values name values) → HasKeys name further
 has_keys Generate (kind, d) further s =
     let limits = HasDimension-limits kind d s.fits in
-    let together : StandTogether kind d None further = record {
+    let together : StandTogether kind (Some d) None further = record {
       kinds = (kind_name kind, s.kind_is, refl);
       dims = (s.dim_is.0, s.dim_is.1, (s.dim_is.2, limits.0, limits.1));
       sizes = no_values (keys_of Generate) (codes "size") further refl (list_all-from_AllPass _ _ s.are_for.keyed);
       fits = (s.fits, tt);
     } in
-    record { keyed = s.are_for.keyed; once = ((kind, d, None, together), ((kind, d, None, together), tt)) }
+    record { keyed = s.are_for.keyed; once = ((kind, Some d, None, together), ((kind, d, None, together), tt)) }
 has_keys Check table further s = record { keyed = s.are_for.keyed; once = ((table, (table, s.table_is.0, (refl, s.table_is.1))), tt) }
 has_keys Extract (table, grid, iso) further s =
     let table_once : StandsOnce Table further = (table, (table, s.table_is.0, (refl, s.table_is.1))) in
@@ -124,7 +136,7 @@ has_keys Extract (table, grid, iso) further s =
     record { keyed = s.are_for.keyed; once = (table_once, (grid_once, (iso_once, tt))) }
 has_keys Demo (kind, d, size, seed) further s =
     let limits = HasDimension-limits kind d s.fits in
-    let together : StandTogether kind d (Some size) further = record {
+    let together : StandTogether kind (Some d) (Some size) further = record {
       kinds = (kind_name kind, s.kind_is, refl);
       dims = (s.dim_is.0, s.dim_is.1, (s.dim_is.2, limits.0, limits.1));
       sizes = (s.size_is.0, s.size_is.1, (s.size_is.2, s.size_from, omega (arith, s.size_to, size_limit-most d)));
@@ -133,10 +145,25 @@ has_keys Demo (kind, d, size, seed) further s =
     let seed_once : StandsOnce Seed further = (seed, (s.seed_is.0, s.seed_is.1, (s.seed_is.2, s.seed_to))) in
     record {
       keyed = s.are_for.keyed;
-      once = ((kind, d, Some size, together), ((kind, d, Some size, together), ((kind, d, size, together), (seed_once, tt))));
+      once = ((kind, Some d, Some size, together), ((kind, d, Some size, together), ((kind, Some d, size, together), (seed_once, tt))));
     }
 has_keys Convert table further s = record { keyed = s.are_for.keyed; once = ((table, (table, s.table_is.0, (refl, s.table_is.1))), tt) }
 has_keys Audit mesh further s = record { keyed = s.are_for.keyed; once = ((mesh, (mesh, s.mesh_is.0, (refl, s.mesh_is.1))), tt) }
+has_keys Spectrum (kind, grid, from, to) further s =
+    let keyed = list_all-from_AllPass _ _ s.are_for.keyed in
+    let together : StandTogether kind None None further = record {
+      kinds = (kind_name kind, s.kind_is, refl);
+      dims = no_values (keys_of Spectrum) (codes "dim") further refl keyed;
+      sizes = no_values (keys_of Spectrum) (codes "size") further refl keyed;
+      fits = (tt, tt);
+    } in
+    let grid_once : StandsOnce Grid further = (grid, (grid, s.grid_is.0, (refl, s.grid_is.1))) in
+    let ends : StandAsRange from to further = record {
+      froms = (s.from_is.0, s.from_is.1, (s.from_is.2, s.from_low, s.from_high));
+      tos = (s.to_is.0, s.to_is.1, (s.to_is.2, s.to_low, s.to_high));
+      range = s.range;
+    } in
+    record { keyed = s.are_for.keyed; once = ((kind, None, None, together), (grid_once, ((from, to, ends), ((from, to, ends), tt)))) }
 
 pub HasKeys-from_right : (name : CommandName) (further : List (List ℕ)) → AreRight is_built (name_text name ∷ further) → HasKeys name further
 HasKeys-from_right name further right =
@@ -220,6 +247,23 @@ SayAudit-given further mesh keyed m = record {
   mesh_is = (m.1 ∙ ap (λ (v : List ℕ). v ∷ []) m.2.0, m.2.1);
 }
 
+pub SaySpectrum-given : (further : List (List ℕ)) (kind : CellKind) (grid : List ℕ) (from to : ℤ) → AllPass (has_key_of (keys_of Spectrum)) further
+    → Stood IsKind (Some kind) (values_of (codes "kind") further) → Stood IsFile (Some grid) (values_of (codes "grid") further)
+    → Stood IsIsovalue (Some from) (values_of (codes "from") further) → Stood IsIsovalue (Some to) (values_of (codes "to") further)
+    → IsRange from to → SaySpectrum (codes "spectrum" ∷ further) kind grid from to
+SaySpectrum-given further kind grid from to keyed k g m n range = record {
+  are_for = record { named = (further, refl); keyed = keyed };
+  kind_is = k.1 ∙ ap (λ (v : List ℕ). v ∷ []) k.2;
+  grid_is = (g.1 ∙ ap (λ (v : List ℕ). v ∷ []) g.2.0, g.2.1);
+  from_is = (m.0, m.1, m.2.0);
+  from_low = m.2.1;
+  from_high = m.2.2;
+  to_is = (n.0, n.1, n.2.0);
+  to_low = n.2.1;
+  to_high = n.2.2;
+  range = range;
+}
+
 -- what is said, where the values of a command were given
 file_stood : (key : List ℕ) (further : List (List ℕ)) (o : Option (Bor (List ℕ))) (name : Bor (List ℕ)) → o ≡ Some name
     → Stood IsFile (option_copied o) (values_of key further) → Stood IsFile (Some name.now) (values_of key further)
@@ -246,6 +290,11 @@ say_given (demo kind dim size seed) further given w g =
     (subst (λ (o : Option ℕ). Fit (Some kind) o given.size) w.1 (subst (λ (o : Option CellKind). Fit o given.dim given.size) w.0 g.fits)))
 say_given (convert table) further given w g = SayConvert-given further table.now g.keyed (file_stood (codes "table") further given.table table w (g.stood Table))
 say_given (audit mesh) further given w g = SayAudit-given further mesh.now g.keyed (file_stood (codes "mesh") further given.mesh mesh w (g.stood Mesh))
+say_given (spectrum kind grid from to) further given w g =
+    SaySpectrum-given further kind grid.now from to g.keyed (value_stood IsKind _ given.kind kind w.0 (g.stood Kind))
+    (file_stood (codes "grid") further given.grid grid w.1 (g.stood Grid)) (value_stood IsIsovalue _ given.from from w.2 (g.stood From))
+    (value_stood IsIsovalue _ given.to to w.3 (g.stood To))
+    (subst (λ (o : Option ℤ). InOrder (Some from) o) w.3 (subst (λ (o : Option ℤ). InOrder o given.to) w.2 g.ordered))
 
 pub Say-whole : (name : CommandName) (command : Command) (further : List (List ℕ)) (given : Given) → IsWhole name given command → Gave name further given
     → SayNamed name further command

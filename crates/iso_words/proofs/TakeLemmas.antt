@@ -5,14 +5,14 @@ use Rattle.std.specs.Option.{is_some, option_copied, MatchOption}
 use Rattle.iso_model.specs.declared.Kind.{Kind as CellKind}
 use Rattle.iso_commands.specs.Commands.{value_for, BeginRight}
 use Rattle.iso_words.specs.declared.keys.Key.{Key}
-use Rattle.iso_words.specs.declared.keys.Key.TheVariants.{Kind, Dim, Size, Seed, Iso}
+use Rattle.iso_words.specs.declared.keys.Key.TheVariants.{Kind, Dim, Size, Seed, Iso, From, To}
 use Rattle.iso_words.specs.declared.keys.CommandName.{CommandName}
 use Rattle.iso_words.specs.Built.{is_built}
 use Rattle.iso_words.specs.Keys.{key_text, name_text, has_key}
 use Rattle.iso_words.specs.Given.{IsKind, IsDimension, IsSize, IsSeed, IsFile, IsIsovalue, IsKindBeside, IsDimensionBeside, IsSizeBeside}
-use Rattle.iso_words.specs.Given.{Fit, values_of, Stood}
+use Rattle.iso_words.specs.Given.{Fit, InOrder, IsFirstBeside, IsLastBeside, values_of, Stood}
 use Rattle.iso_words.proofs.StoodLemmas.{never_stands, first_stands, never_beside, Stood-keeps}
-use Rattle.iso_words.proofs.KindLemmas.{IsKind-one, IsDimension-one, IsSize-one, Fit-before}
+use Rattle.iso_words.proofs.KindLemmas.{IsKind-one, IsDimension-one, IsSize-one, IsIsovalue-one, Fit-before, InOrder-first, InOrder-last}
 use Rattle.iso_words.proofs.RightLemmas.{StandsOnce, not_begin-never}
 
 -- ---- file names
@@ -80,7 +80,7 @@ pub never_kind : (name : CommandName) (further : List (List ℕ)) (word text : L
 never_kind name further word text old new dim size has e stood dims sizes fits read t =
     not_begin-never name Kind (further ++ word ∷ []) has (λ more (k, d, last, s).
     never_beside IsKind (λ o. Fit o dim size) old new (codes "kind") further word text e stood fits t read more k s.kinds
-    (Fit-before (Some k) dim size k d last refl (Stood-keeps IsDimension IsDimension-one (codes "dim") further (word ∷ []) more dim (Some d) dims s.dims)
+    (Fit-before (Some k) dim size k d last refl (Stood-keeps IsDimension IsDimension-one (codes "dim") further (word ∷ []) more dim d dims s.dims)
     (Stood-keeps IsSize IsSize-one (codes "size") further (word ∷ []) more size last sizes s.sizes) s.fits))
 
 -- a dimension, where one stood, or the text is none that goes with the kind and the size
@@ -92,7 +92,7 @@ pub never_dimension : (name : CommandName) (further : List (List ℕ)) (word tex
 never_dimension name further word text old new kind size has e stood kinds sizes fits read t =
     not_begin-never name Dim (further ++ word ∷ []) has (λ more (k, d, last, s).
     never_beside IsDimension (λ o. Fit kind o size) old new (codes "dim") further word text e stood fits t read more d s.dims
-    (Fit-before kind (Some d) size k d last (Stood-keeps IsKind IsKind-one (codes "kind") further (word ∷ []) more kind (Some k) kinds s.kinds) refl
+    (Fit-before kind (Some d) size k (Some d) last (Stood-keeps IsKind IsKind-one (codes "kind") further (word ∷ []) more kind (Some k) kinds s.kinds) refl
     (Stood-keeps IsSize IsSize-one (codes "size") further (word ∷ []) more size last sizes s.sizes) s.fits))
 
 -- a size, where one stood, or the text is none that goes with the kind and the dimension
@@ -105,4 +105,28 @@ never_size name further word text old new kind dim has e stood kinds dims fits r
     not_begin-never name Size (further ++ word ∷ []) has (λ more (k, d, n, s).
     never_beside IsSize (λ o. Fit kind dim o) old new (codes "size") further word text e stood fits t read more n s.sizes
     (Fit-before kind dim (Some n) k d (Some n) (Stood-keeps IsKind IsKind-one (codes "kind") further (word ∷ []) more kind (Some k) kinds s.kinds)
-    (Stood-keeps IsDimension IsDimension-one (codes "dim") further (word ∷ []) more dim (Some d) dims s.dims) refl s.fits))
+    (Stood-keeps IsDimension IsDimension-one (codes "dim") further (word ∷ []) more dim d dims s.dims) refl s.fits))
+
+-- ---- ranges
+
+-- a first isovalue, where one stood, or the text is none that goes with the last one
+pub never_first : (name : CommandName) (further : List (List ℕ)) (word text : List ℕ) (old new to : Option ℤ)
+    → has_key name From ≡ true → value_for (codes "from") word ≡ Some text → Stood IsIsovalue old (values_of (codes "from") further)
+    → Stood IsIsovalue to (values_of (codes "to") further) → InOrder old to
+    → MatchOption new ((n : ℤ) → ¬ IsFirstBeside to text n) (IsFirstBeside to text) → (not (is_some old) && is_some new) ≡ false
+    → BeginRight is_built (name_text name ∷ (further ++ word ∷ [])) → ⊥
+never_first name further word text old new to has e stood tos ordered read t =
+    not_begin-never name From (further ++ word ∷ []) has (λ more (m, n, s).
+    never_beside IsIsovalue (λ o. InOrder o to) old new (codes "from") further word text e stood ordered t read more m s.froms
+    (InOrder-first m to n (Stood-keeps IsIsovalue IsIsovalue-one (codes "to") further (word ∷ []) more to (Some n) tos s.tos) s.range))
+
+-- a last isovalue, where one stood, or the text is none that goes with the first one
+pub never_last : (name : CommandName) (further : List (List ℕ)) (word text : List ℕ) (old new from : Option ℤ)
+    → has_key name To ≡ true → value_for (codes "to") word ≡ Some text → Stood IsIsovalue old (values_of (codes "to") further)
+    → Stood IsIsovalue from (values_of (codes "from") further) → InOrder from old
+    → MatchOption new ((n : ℤ) → ¬ IsLastBeside from text n) (IsLastBeside from text) → (not (is_some old) && is_some new) ≡ false
+    → BeginRight is_built (name_text name ∷ (further ++ word ∷ [])) → ⊥
+never_last name further word text old new from has e stood froms ordered read t =
+    not_begin-never name To (further ++ word ∷ []) has (λ more (m, n, s).
+    never_beside IsIsovalue (λ o. InOrder from o) old new (codes "to") further word text e stood ordered t read more n s.tos
+    (InOrder-last from n m (Stood-keeps IsIsovalue IsIsovalue-one (codes "from") further (word ∷ []) more from (Some m) froms s.froms) s.range))

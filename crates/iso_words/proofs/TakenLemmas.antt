@@ -10,11 +10,11 @@ use Rattle.lists.specs.Orders.{same_list}
 use Rattle.lists.proofs.MemberLaws.{lists_equal}
 use Rattle.iso_commands.specs.Commands.{has_key_of}
 use Rattle.iso_words.specs.declared.keys.Key.{Key}
-use Rattle.iso_words.specs.declared.keys.Key.TheVariants.{Kind, Dim, Size, Seed, Table, Grid, Iso, Mesh}
+use Rattle.iso_words.specs.declared.keys.Key.TheVariants.{Kind, Dim, Size, Seed, Table, Grid, Iso, Mesh, From, To}
 use Rattle.iso_words.specs.declared.keys.CommandName.{CommandName}
 use Rattle.iso_words.specs.declared.given.Given.{Given}
 use Rattle.iso_words.specs.Keys.{key_text, keys_of, has_key, HasValue}
-use Rattle.iso_words.specs.Given.{values_of, StoodAt, Fit, Gave}
+use Rattle.iso_words.specs.Given.{values_of, StoodAt, Fit, InOrder, Gave}
 use Rattle.iso_words.proofs.KeyLemmas.{every_key, key_text-one, value_for-other, has_key_of-key}
 use Rattle.iso_words.proofs.StoodLemmas.{values_of-none}
 
@@ -28,6 +28,8 @@ nothing = record {
   grid = None;
   iso = None;
   mesh = None;
+  from = None;
+  to = None;
 }
 
 nothing_stood : (key : Key) → StoodAt key nothing []
@@ -39,9 +41,11 @@ nothing_stood Table = refl
 nothing_stood Grid = refl
 nothing_stood Iso = refl
 nothing_stood Mesh = refl
+nothing_stood From = refl
+nothing_stood To = refl
 
 pub Gave-nothing : (name : CommandName) → Gave name [] nothing
-Gave-nothing name = record { keyed = All-nil (λ w. has_key_of (keys_of name) w ≡ true); stood = nothing_stood; fits = (tt, tt) }
+Gave-nothing name = record { keyed = All-nil (λ w. has_key_of (keys_of name) w ≡ true); stood = nothing_stood; fits = (tt, tt); ordered = tt }
 
 -- ---- what stands at each key, as a list
 
@@ -54,6 +58,8 @@ index Table = 4
 index Grid = 5
 index Iso = 6
 index Mesh = 7
+index From = 8
+index To = 9
 
 abbrev pub stood_list : Given → List (List (List ℕ) → Type 0)
 stood_list given =
@@ -65,6 +71,8 @@ stood_list given =
     ∷ StoodAt Grid given
     ∷ StoodAt Iso given
     ∷ StoodAt Mesh given
+    ∷ StoodAt From given
+    ∷ StoodAt To given
     ∷ []
 
 key_at : (key : Key) → get_or every_key (index key) Kind ≡ key
@@ -76,6 +84,8 @@ key_at Table = refl
 key_at Grid = refl
 key_at Iso = refl
 key_at Mesh = refl
+key_at From = refl
+key_at To = refl
 
 stood_at : (key : Key) (given : Given) → get_or (stood_list given) (index key) (λ values. ⊤) ≡ StoodAt key given
 stood_at Kind given = refl
@@ -86,6 +96,8 @@ stood_at Table given = refl
 stood_at Grid given = refl
 stood_at Iso given = refl
 stood_at Mesh given = refl
+stood_at From given = refl
+stood_at To given = refl
 
 -- the value of this key alone is new
 abbrev pub Changes : Key → Given → Given → Type 1
@@ -119,9 +131,10 @@ stood_after key old new further word text e changes here stood k = go (same_list
 -- a word with a key of the command that changes the value of this key alone
 pub Gave-taken : (name : CommandName) (key : Key) (old new : Given) (further : List (List ℕ)) (word text : List ℕ) → has_key name key ≡ true
     → HasValue word key text → Changes key old new → StoodAt key new (values_of (key_text key) (further ++ word ∷ [])) → Fit new.kind new.dim new.size
-    → Gave name further old → Gave name (further ++ word ∷ []) new
-Gave-taken name key old new further word text has e changes here fits g = record {
+    → InOrder new.from new.to → Gave name further old → Gave name (further ++ word ∷ []) new
+Gave-taken name key old new further word text has e changes here fits ordered g = record {
   keyed = All-push (λ w. has_key_of (keys_of name) w ≡ true) further word g.keyed (has_key_of-key name key word text e ∙ has);
   stood = stood_after key old new further word text e changes here g.stood;
   fits = fits;
+  ordered = ordered;
 }

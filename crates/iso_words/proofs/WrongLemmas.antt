@@ -11,9 +11,9 @@ use Rattle.iso_commands.specs.Commands.{Command as Asked, kind_name, Gives}
 use Rattle.iso_commands.specs.Commands.{GivesNumber, Say, AreRight, BeginRight, IsWrongWord}
 use Rattle.iso_words.specs.declared.Command.{Command}
 use Rattle.iso_words.specs.declared.Command.TheVariants.{Generate as generate, Check as check, Extract as extract, Demo as demo}
-use Rattle.iso_words.specs.declared.Command.TheVariants.{Convert as convert, Audit as audit}
+use Rattle.iso_words.specs.declared.Command.TheVariants.{Convert as convert, Audit as audit, Spectrum as spectrum}
 use Rattle.iso_words.specs.declared.keys.CommandName.{CommandName}
-use Rattle.iso_words.specs.declared.keys.CommandName.TheVariants.{Generate, Check, Extract, Demo, Convert, Audit}
+use Rattle.iso_words.specs.declared.keys.CommandName.TheVariants.{Generate, Check, Extract, Demo, Convert, Audit, Spectrum}
 use Rattle.iso_words.specs.declared.given.Given.{Given}
 use Rattle.iso_words.specs.Built.{is_built, texts, asked}
 use Rattle.iso_words.specs.Keys.{name_text}
@@ -53,6 +53,12 @@ one_values Demo words (kind, d, size, seed) (kind', d', size', seed') s t =
     cc
 one_values Convert words table table' s t = one_value words (codes "table") table table' s.table_is.0 t.table_is.0
 one_values Audit words mesh mesh' s t = one_value words (codes "mesh") mesh mesh' s.mesh_is.0 t.mesh_is.0
+one_values Spectrum words (kind, grid, from, to) (kind', grid', from', to') s t =
+    let same_kind = kind_name-one kind kind' (one_value words (codes "kind") (kind_name kind) (kind_name kind') s.kind_is t.kind_is) in
+    let same_grid = one_value words (codes "grid") grid grid' s.grid_is.0 t.grid_is.0 in
+    let same_from = one_number words (codes "from") from from' s.from_is t.from_is in
+    let same_to = one_number words (codes "to") to to' s.to_is t.to_is in
+    cc
 
 pub Say-one : (words : List (List ℕ)) (c d : Asked) → IsTrue (is_built c) → IsTrue (is_built d) → Say words c → Say words d → c ≡ d
 Say-one words c d b e s t =
@@ -189,6 +195,7 @@ asked_built (extract table grid iso) = refl
 asked_built (demo kind dim size seed) = refl
 asked_built (convert table) = refl
 asked_built (audit mesh) = refl
+asked_built (spectrum kind grid from to) = refl
 
 -- ---- how many values were given
 
@@ -208,4 +215,6 @@ few_given given =
       at_most_one (is_some given.grid),
       at_most_one (is_some given.iso),
       at_most_one (is_some given.mesh),
+      at_most_one (is_some given.from),
+      at_most_one (is_some given.to),
     )

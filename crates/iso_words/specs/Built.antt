@@ -3,8 +3,9 @@ use Rattle.std.specs.Prelude.{ℕ, Bool, true, false, List, map, IsTrue}
 use Rattle.std.specs.String.{string_bytes}
 use Rattle.std.specs.declared.string.String.{String}
 use Rattle.iso_commands.specs.Commands.{Command as Asked, Say, generate_command, check_command, extract_command, demo_command, convert_command, audit_command}
+use Rattle.iso_commands.specs.Commands.{spectrum_command}
 use Rattle.iso_words.specs.declared.Command.{Command}
-use Rattle.iso_words.specs.declared.Command.TheVariants.{Generate, Check, Extract, Demo, Convert, Audit}
+use Rattle.iso_words.specs.declared.Command.TheVariants.{Generate, Check, Extract, Demo, Convert, Audit, Spectrum}
 
 -- the commands that are built
 abbrev pub is_built : Asked → Bool
@@ -14,6 +15,7 @@ is_built (extract_command table grid iso) = true
 is_built (demo_command kind d size seed) = true
 is_built (convert_command table) = true
 is_built (audit_command mesh) = true
+is_built (spectrum_command kind grid from to) = true
 
 -- the bytes of each word
 abbrev pub texts : {A : Type 0} → List (String A) → List (List ℕ)
@@ -31,3 +33,4 @@ asked (Extract table grid iso) = extract_command table.now grid.now iso
 asked (Demo kind dim size seed) = demo_command kind dim size seed
 asked (Convert table) = convert_command table.now
 asked (Audit mesh) = audit_command mesh.now
+asked (Spectrum kind grid from to) = spectrum_command kind grid.now from to

@@ -7,15 +7,15 @@ use Rattle.std.specs.Str.{all_ascii_digits}
 use Rattle.iso_model.specs.declared.Kind.{Kind as CellKind}
 use Rattle.iso_model.specs.declared.Kind.TheVariants.{Cube, Simplex, Pyramid}
 use Rattle.iso_model.specs.Cells.{HasDimension}
-use Rattle.iso_commands.specs.Commands.{BeginRight, Say, value_for, has_key_of, kind_name, IsNumber, iso_limit, size_limit}
+use Rattle.iso_commands.specs.Commands.{BeginRight, Say, value_for, has_key_of, kind_name, IsNumber, IsRange, iso_limit, size_limit}
 use Rattle.iso_words.specs.Built.{asked, is_built}
 use Rattle.iso_words.specs.declared.Command.{Command}
 use Rattle.iso_words.specs.declared.Command.TheVariants.{Generate as generate, Check as check, Extract as extract, Demo as demo}
-use Rattle.iso_words.specs.declared.Command.TheVariants.{Convert as convert, Audit as audit}
-use Rattle.iso_words.specs.declared.keys.CommandName.TheVariants.{Generate, Check, Extract, Demo, Convert, Audit}
+use Rattle.iso_words.specs.declared.Command.TheVariants.{Convert as convert, Audit as audit, Spectrum as spectrum}
+use Rattle.iso_words.specs.declared.keys.CommandName.TheVariants.{Generate, Check, Extract, Demo, Convert, Audit, Spectrum}
 use Rattle.iso_words.specs.Keys.{key_text, own_keys, keys_of, name_text}
 use Rattle.iso_words.specs.declared.keys.Key.{Key}
-use Rattle.iso_words.specs.declared.keys.Key.TheVariants.{Kind, Dim, Size, Seed, Table, Grid, Iso, Mesh}
+use Rattle.iso_words.specs.declared.keys.Key.TheVariants.{Kind, Dim, Size, Seed, Table, Grid, Iso, Mesh, From, To}
 use Rattle.iso_words.specs.declared.keys.CommandName.{CommandName}
 use Rattle.iso_words.specs.declared.given.Given.{Given}
 
@@ -82,6 +82,20 @@ IsFile text name = (text ≡ name) × (name ≢ [])
 abbrev pub IsIsovalue : List ℕ → ℤ → Type 0
 IsIsovalue text n = IsNumber text n × (neg_ℤ (pos iso_limit) ≤ℤ n) × (n ≤ℤ pos iso_limit)
 
+-- two isovalues are the ends of a range, where both were given
+abbrev pub InOrder : Option ℤ → Option ℤ → Type 0
+InOrder None to = ⊤
+InOrder (Some from) None = ⊤
+InOrder (Some from) (Some to) = IsRange from to
+
+-- the text of an isovalue that goes with the last one of a range
+abbrev pub IsFirstBeside : Option ℤ → List ℕ → ℤ → Type 0
+IsFirstBeside to text n = IsIsovalue text n × InOrder (Some n) to
+
+-- the text of an isovalue that goes with the first one of a range
+abbrev pub IsLastBeside : Option ℤ → List ℕ → ℤ → Type 0
+IsLastBeside from text n = IsIsovalue text n × InOrder from (Some n)
+
 -- the values of a key in words behind the first
 abbrev pub values_of : List ℕ → List (List ℕ) → List (List ℕ)
 values_of key further = filter_map (value_for key) further
@@ -101,12 +115,15 @@ StoodAt Table given values = Stood IsFile (option_copied given.table) values
 StoodAt Grid given values = Stood IsFile (option_copied given.grid) values
 StoodAt Iso given values = Stood IsIsovalue given.iso values
 StoodAt Mesh given values = Stood IsFile (option_copied given.mesh) values
+StoodAt From given values = Stood IsIsovalue given.from values
+StoodAt To given values = Stood IsIsovalue given.to values
 
 -- the words behind the command's name have keys of the command, none twice, and give these values, which go together
 pub record Gave (name : CommandName) (further : List (List ℕ)) (given : Given) : Type 0 where
   pub keyed : AllPass (has_key_of (keys_of name)) further
   pub stood : (key : Key) → StoodAt key given (values_of (key_text key) further)
   pub fits : Fit given.kind given.dim given.size
+  pub ordered : InOrder given.from given.to
 
 -- this holds of each list of words behind the command's name that gives these values
 abbrev pub EachGiving : CommandName → Given → (List (List ℕ) → Type 0) → Type 0
@@ -124,6 +141,7 @@ name_of (extract table grid iso) = Extract
 name_of (demo kind dim size seed) = Demo
 name_of (convert table) = Convert
 name_of (audit mesh) = Audit
+name_of (spectrum kind grid from to) = Spectrum
 
 -- the values of a command were given
 abbrev pub WereGiven : Given → Command → Type 0
@@ -133,6 +151,7 @@ WereGiven given (extract table grid iso) = (given.table ≡ Some table) × (give
 WereGiven given (demo kind dim size seed) = (given.kind ≡ Some kind) × (given.dim ≡ Some dim) × (given.size ≡ Some size) × (given.seed ≡ Some seed)
 WereGiven given (convert table) = given.table ≡ Some table
 WereGiven given (audit mesh) = given.mesh ≡ Some mesh
+WereGiven given (spectrum kind grid from to) = (given.kind ≡ Some kind) × (given.grid ≡ Some grid) × (given.from ≡ Some from) × (given.to ≡ Some to)
 
 -- the command of this name, with the values that were given
 abbrev pub IsWhole : CommandName → Given → Command → Type 0
@@ -156,6 +175,8 @@ is_given Table given = is_some given.table
 is_given Grid given = is_some given.grid
 is_given Iso given = is_some given.iso
 is_given Mesh given = is_some given.mesh
+is_given From given = is_some given.from
+is_given To given = is_some given.to
 
 -- a key of the command is missing
 abbrev pub Lacks : CommandName → Given → Type 0
@@ -172,3 +193,5 @@ given_count given =
     + (if is_some given.grid then 1 else 0)
     + (if is_some given.iso then 1 else 0)
     + (if is_some given.mesh then 1 else 0)
+    + (if is_some given.from then 1 else 0)
+    + (if is_some given.to then 1 else 0)

@@ -4,9 +4,9 @@ use Rattle.std.specs.List.{list_any}
 use Rattle.lists.specs.Orders.{same_list}
 use Rattle.iso_commands.specs.Commands.{value_for}
 use Rattle.iso_words.specs.declared.keys.Key.{Key}
-use Rattle.iso_words.specs.declared.keys.Key.TheVariants.{Kind, Dim, Size, Seed, Table, Grid, Iso, Mesh}
+use Rattle.iso_words.specs.declared.keys.Key.TheVariants.{Kind, Dim, Size, Seed, Table, Grid, Iso, Mesh, From, To}
 use Rattle.iso_words.specs.declared.keys.CommandName.{CommandName}
-use Rattle.iso_words.specs.declared.keys.CommandName.TheVariants.{Generate, Check, Extract, Demo, Convert, Audit}
+use Rattle.iso_words.specs.declared.keys.CommandName.TheVariants.{Generate, Check, Extract, Demo, Convert, Audit, Spectrum}
 
 -- this holds of the answer, and where there is none, of nothing
 abbrev pub Finds : {V : Type 0} → (V → Type 0) → Option V → Type 0
@@ -22,6 +22,8 @@ key_text Table = codes "table"
 key_text Grid = codes "grid"
 key_text Iso = codes "iso"
 key_text Mesh = codes "mesh"
+key_text From = codes "from"
+key_text To = codes "to"
 
 -- the word of a command
 abbrev pub name_text : CommandName → List ℕ
@@ -31,6 +33,7 @@ name_text Extract = codes "extract"
 name_text Demo = codes "demo"
 name_text Convert = codes "convert"
 name_text Audit = codes "audit"
+name_text Spectrum = codes "spectrum"
 
 -- a command's keys
 abbrev pub own_keys : CommandName → List Key
@@ -40,6 +43,7 @@ own_keys Extract = Table ∷ Grid ∷ Iso ∷ []
 own_keys Demo = Kind ∷ Dim ∷ Size ∷ Seed ∷ []
 own_keys Convert = Table ∷ []
 own_keys Audit = Mesh ∷ []
+own_keys Spectrum = Kind ∷ Grid ∷ From ∷ To ∷ []
 
 -- the words of a command's keys
 abbrev pub keys_of : CommandName → List (List ℕ)

@@ -5,7 +5,10 @@ ghost use Rattle.std.specs.Bool.{OnTrue, OnFalse};
 
 use crate::Command;
 use crate::keys::{CommandName, Key};
-use crate::values::{dimension_beside, file_name, isovalue, kind_beside, seed, size_beside};
+use crate::values::{
+    dimension_beside, file_name, first_isovalue, isovalue, kind_beside, last_isovalue, seed,
+    size_beside,
+};
 use iso_model::Kind;
 
 /// The value of each key that stood.
@@ -19,6 +22,8 @@ pub(crate) struct Given<'a> {
     grid: Option<&'a str>,
     iso: Option<i64>,
     mesh: Option<&'a str>,
+    from: Option<i64>,
+    to: Option<i64>,
 }
 
 impl<'a> Given<'a> {
@@ -38,6 +43,8 @@ impl<'a> Given<'a> {
             grid: None,
             iso: None,
             mesh: None,
+            from: None,
+            to: None,
         }
     }
 
@@ -63,6 +70,8 @@ impl<'a> Given<'a> {
             Key::Grid => put(&mut self.grid, file_name(value)),
             Key::Iso => put(&mut self.iso, isovalue(value)),
             Key::Mesh => put(&mut self.mesh, file_name(value)),
+            Key::From => put(&mut self.from, first_isovalue(self.to, value)),
+            Key::To => put(&mut self.to, last_isovalue(self.from, value)),
         }
     }
 
@@ -100,6 +109,15 @@ impl<'a> Given<'a> {
             CommandName::Audit => match self.mesh {
                 Some(mesh) => Some(Command::Audit { mesh }),
                 None => None,
+            },
+            CommandName::Spectrum => match (self.kind, self.grid, self.from, self.to) {
+                (Some(kind), Some(grid), Some(from), Some(to)) => Some(Command::Spectrum {
+                    kind,
+                    grid,
+                    from,
+                    to,
+                }),
+                _ => None,
             },
         }
     }

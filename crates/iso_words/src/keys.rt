@@ -9,6 +9,7 @@ pub(crate) enum CommandName {
     Demo,
     Convert,
     Audit,
+    Spectrum,
 }
 
 impl CommandName {
@@ -31,6 +32,8 @@ impl CommandName {
             Some(CommandName::Convert)
         } else if word == "audit" {
             Some(CommandName::Audit)
+        } else if word == "spectrum" {
+            Some(CommandName::Spectrum)
         } else {
             None
         }
@@ -47,6 +50,7 @@ impl CommandName {
             CommandName::Demo => matches!(key, Key::Kind | Key::Dim | Key::Size | Key::Seed),
             CommandName::Convert => matches!(key, Key::Table),
             CommandName::Audit => matches!(key, Key::Mesh),
+            CommandName::Spectrum => matches!(key, Key::Kind | Key::Grid | Key::From | Key::To),
         }
     }
 }
@@ -62,6 +66,8 @@ pub(crate) enum Key {
     Grid,
     Iso,
     Mesh,
+    From,
+    To,
 }
 
 impl Key {
@@ -88,6 +94,10 @@ impl Key {
             Some(Key::Iso)
         } else if text == "mesh" {
             Some(Key::Mesh)
+        } else if text == "from" {
+            Some(Key::From)
+        } else if text == "to" {
+            Some(Key::To)
         } else {
             None
         }

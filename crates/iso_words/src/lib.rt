@@ -11,11 +11,13 @@
 //! | `demo kind=K dim=N size=N seed=N` | what the demonstration says of a mesh of a grid that is made |
 //! | `convert table=F` | the table of the file in version 2 of the format |
 //! | `audit mesh=F` | whether the simplices of the mesh file are glued |
+//! | `spectrum kind=K grid=F from=N to=N` | the number of vertices of the grid's mesh at each isovalue of a range |
 //!
 //! K is `cube`, `simplex` or `pyramid`, and F is a file name of at least one character. N is an optional `-` and
 //! digits, without a leading zero but `0` itself, and not `-0`. A dimension is 2, 3 or 4, and 3 with `pyramid`; a size
 //! lies from 1 to 256 in two dimensions, to 64 in three and to 16 in four; a seed lies from 0 to 4294967295, and an
-//! isovalue from -1099511627776 to 1099511627776. Letter case matters everywhere.
+//! isovalue, as each end of a range, from -1099511627776 to 1099511627776. A range goes up, or has one isovalue, and
+//! has at most 65,536. Letter case matters everywhere.
 #![tactic(auto)]
 
 ghost use Rattle.std.specs.Prelude.{◌≡◌, ℕ, ◌+◌, ◌≤◌, ◌∷◌, codes, IfOk, IfErr, IsOkAnd, IsErrAnd};
@@ -64,6 +66,13 @@ pub enum Command<'a> {
     /// Audit a mesh file.
     Audit {
         mesh: &'a str,
+    },
+    /// Count the vertices of the meshes of a grid, split into cells of a kind, at each isovalue of a range.
+    Spectrum {
+        kind: Kind,
+        grid: &'a str,
+        from: i64,
+        to: i64,
     },
 }
 

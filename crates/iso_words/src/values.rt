@@ -9,12 +9,16 @@ ghost use Rattle.iso_model.specs.Cells.{HasDimension};
 ghost use Rattle.iso_commands.specs.Commands.{is_number, IsNumber, size_limit};
 ghost use Rattle.iso_words.specs.Given.{are_digits_alone, IsKind, IsDimension, IsSize, IsSeed, IsFile, IsIsovalue};
 ghost use Rattle.iso_words.specs.Given.{Fit, HasGiven, widest, IsKindBeside, IsDimensionBeside, IsSizeBeside};
+ghost use Rattle.iso_words.specs.Given.{InOrder, IsFirstBeside, IsLastBeside};
 ghost use Rattle.iso_words.specs.Keys.{Finds};
 
 use iso_model::Kind;
 
 // The greatest size of an isovalue.
 const ISO_LIMIT: i64 = 1 << 40;
+
+// How many isovalues a range has at most.
+const MOST_ISOVALUES: u64 = 65_536;
 
 // A kind that goes with the dimension and the size, as far as they were given.
 pub(crate) fn kind_beside(dim: Option<u8>, size: Option<u64>, value: &str) -> Option<Kind>
@@ -189,6 +193,45 @@ pub(crate) fn isovalue(value: &str) -> Option<i64>
         Some(n)
     } else {
         None
+    }
+}
+
+// The first isovalue of a range that goes with the last one, where that was given.
+pub(crate) fn first_isovalue(to: Option<i64>, value: &str) -> Option<i64>
+    ensures { Finds (IsFirstBeside to value.now) result }
+{
+    let Some(from) = isovalue(value) else {
+        return None;
+    };
+    if in_order(Some(from), to) {
+        Some(from)
+    } else {
+        None
+    }
+}
+
+// The last isovalue of a range that goes with the first one, where that was given.
+pub(crate) fn last_isovalue(from: Option<i64>, value: &str) -> Option<i64>
+    ensures { Finds (IsLastBeside from value.now) result }
+{
+    let Some(to) = isovalue(value) else {
+        return None;
+    };
+    if in_order(from, Some(to)) {
+        Some(to)
+    } else {
+        None
+    }
+}
+
+// Whether two isovalues are the ends of a range, where both were given.
+fn in_order(from: Option<i64>, to: Option<i64>) -> bool
+    ensures yes { OnTrue result (InOrder from to) }
+    ensures no { OnFalse result (¬ InOrder from to) }
+{
+    match (from, to) {
+        (Some(from), Some(to)) => from <= to && to.abs_diff(from) < MOST_ISOVALUES,
+        _ => true,
     }
 }
 

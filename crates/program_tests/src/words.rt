@@ -43,6 +43,15 @@ const fn audit(mesh: &str) -> Command<'_> {
     Command::Audit { mesh }
 }
 
+const fn spectrum<'a>(kind: Kind, grid: &'a str, from: i64, to: i64) -> Command<'a> {
+    Command::Spectrum {
+        kind,
+        grid,
+        from,
+        to,
+    }
+}
+
 #[test]
 fn right_words_say_their_command(rt: HostRuntime) -> Result<(), Fail> {
     let rows = [
@@ -109,6 +118,27 @@ fn right_words_say_their_command(rt: HostRuntime) -> Result<(), Fail> {
             "extract table=iso=1 grid=table=a iso=2",
             extract("iso=1", "table=a", 2),
         ),
+        // ranges: of many isovalues, of one, of the greatest number, and at both ends
+        (
+            "spectrum kind=cube grid=a from=0 to=255",
+            spectrum(Kind::Cube, "a", 0, 255),
+        ),
+        (
+            "spectrum to=-3 from=-3 grid=from=1 kind=pyramid",
+            spectrum(Kind::Pyramid, "from=1", -3, -3),
+        ),
+        (
+            "spectrum grid=a to=32767 kind=simplex from=-32768",
+            spectrum(Kind::Simplex, "a", -32768, 32767),
+        ),
+        (
+            "spectrum from=1099511562241 to=1099511627776 kind=cube grid=a",
+            spectrum(Kind::Cube, "a", 1099511562241, 1099511627776),
+        ),
+        (
+            "spectrum to=-1099511562241 from=-1099511627776 kind=cube grid=a",
+            spectrum(Kind::Cube, "a", -1099511627776, -1099511562241),
+        ),
     ];
     for (line, command) in rows {
         let words = words_of(rt.alloc(), line)?;
@@ -118,7 +148,7 @@ fn right_words_say_their_command(rt: HostRuntime) -> Result<(), Fail> {
 }
 
 // Lines, and the number of the first word that is wrong.
-const WRONG_WORDS: [(&str, u32); 85] = [
+const WRONG_WORDS: [(&str, u32); 97] = [
     // commands
     ("", 1),
     (" ", 1),
@@ -215,6 +245,19 @@ const WRONG_WORDS: [(&str, u32); 85] = [
         4,
     ),
     ("extract iso=05 x x x x x x x", 2),
+    // a range that falls, that has too many isovalues, or that lacks an end
+    ("spectrum kind=cube grid=g from=5 to=4", 5),
+    ("spectrum to=4 from=5", 3),
+    ("spectrum from=0 to=65536", 3),
+    ("spectrum to=32767 grid=a from=-32769", 4),
+    ("spectrum to=-1099511627777", 2),
+    ("spectrum from=1099511627777", 2),
+    ("spectrum from=-1099511627776 to=1099511627776", 3),
+    ("spectrum kind=cube grid=g to=4", 5),
+    ("spectrum kind=cube grid=g from=4", 5),
+    ("spectrum from=4 from=4", 3),
+    ("spectrum kind=cube dim=3", 3),
+    ("spectrum grid=", 2),
 ];
 
 #[test]
