@@ -11,7 +11,7 @@ _iso() {
         key=${COMP_WORDS[COMP_CWORD - 2]} value=$word apart=yes
     fi
     if ((COMP_CWORD == 1)); then
-        COMPREPLY=($(compgen -W "generate check extract demo convert audit" -- "$word"))
+        COMPREPLY=($(compgen -W "generate check extract demo convert audit spectrum" -- "$word"))
         return
     fi
     local before=
@@ -28,7 +28,7 @@ _iso() {
             compopt -o filenames
             COMPREPLY=($(compgen -P "$before" -f -- "$value"))
             ;;
-        iso | size | seed) ;;
+        iso | size | seed | from | to) ;;
         *)
             local keys= it left=
             case $command in
@@ -37,6 +37,7 @@ _iso() {
                 extract) keys="table= grid= iso=" ;;
                 demo) keys="kind= dim= size= seed=" ;;
                 audit) keys="mesh=" ;;
+                spectrum) keys="kind= grid= from= to=" ;;
             esac
             for it in $keys; do
                 [[ " ${COMP_WORDS[*]} " == *" $it"* || " ${COMP_WORDS[*]} " == *" ${it%=} = "* ]] || left+=" $it"

@@ -9,7 +9,7 @@ use Rattle.iso_base.specs.declared.outside.Failed.{Failed}
 use Rattle.iso_base.specs.Files.{Files, bytes_of}
 use Rattle.iso_base.specs.Fronts.{AppendsFront}
 use Rattle.iso_commands.specs.Commands.{AreRight, Command, IsWrongWord, Say, generate_command, check_command, extract_command, demo_command}
-use Rattle.iso_commands.specs.Commands.{convert_command, audit_command}
+use Rattle.iso_commands.specs.Commands.{convert_command, audit_command, spectrum_command}
 use Rattle.iso_words.specs.Built.{is_built}
 use Rattle.iso_words.proofs.WrongLemmas.{Say-one}
 use Rattle.iso_cli.specs.declared.status.Status.{Status}
@@ -23,6 +23,7 @@ use Rattle.iso_cli.specs.StatusLines.{status_line}
 use Rattle.iso_cli.proofs.Auditing.{not_refused_audit}
 use Rattle.iso_cli.proofs.Demonstrating.{not_refused_made}
 use Rattle.iso_cli.proofs.Excluding.{not_refused_check, not_refused_file, not_refused_mesh}
+use Rattle.iso_cli.proofs.Counting.{not_refused_spectrum}
 
 -- ---- the files
 
@@ -101,6 +102,7 @@ all_there files (extract_command table grid iso) there (inr lacks) = some_none f
 all_there files (demo_command kind d size seed) there lacks = lacks
 all_there files (convert_command table) there lacks = some_none files table there.0 lacks
 all_there files (audit_command mesh) there lacks = some_none files mesh there.0 lacks
+all_there files (spectrum_command kind grid from to) there lacks = some_none files grid there.0 lacks
 
 -- a shelf that serves well is not blamed
 not_blamed : {S : Type 0} (faults : S → ℕ) (files : S → Option Files) (sound : S → Type 0) (words : List (List ℕ)) (count : ℕ) (old new : S)
@@ -151,6 +153,8 @@ not_refused (Some files) (extract_command table grid iso) status told holds refu
 not_refused (Some files) (demo_command kind d size seed) status told holds refused = not_refused_made kind d holds.0 status holds.1 holds.2 refused
 not_refused (Some files) (convert_command table) status told holds refused = not_refused_file files table holds.0 status holds.1 refused
 not_refused (Some files) (audit_command mesh) status told holds refused = not_refused_audit files mesh holds.0 status holds.1 refused
+not_refused (Some files) (spectrum_command kind grid from to) status told holds refused =
+    not_refused_spectrum files grid kind holds.0 status holds.1 refused
 
 pub decided_answer : (files : Option Files) (words : List (List ℕ)) (status : Status) → IsDecided status → IsTrueAnswer files words status
     → SayBuilt words (IsTrueOf files status)

@@ -47,13 +47,16 @@ no_sample_fault h data_bytes g _ spelled (too_many more) = omega (arith, spelled
 no_sample_fault h data_bytes g _ spelled (cut_off few short) = omega (arith, spelled.whole, short)
 no_sample_fault h data_bytes g _ spelled (overlong few long) = omega (arith, spelled.whole, long)
 
--- bytes that spell a grid of this dimension are not refused for it
-not_refused_grid : (d : ℕ) (bytes : List ℕ) (g : Grid) (status : Status) → SpellsGrid bytes g → d ≡ length g.sizes → IsRefusedGrid d bytes status → ⊥
-not_refused_grid d bytes g _ spelled fits (no_header fault has) = header_or_fault bytes spelled.0 spelled.1 fault spelled.2 has
-not_refused_grid d bytes g _ spelled fits (unfit k y q differ) =
+-- bytes that spell a grid of the dimension that is needed are not refused
+pub not_refused_grid : (needed : ℕ → ℕ) (bytes : List ℕ) (g : Grid) (status : Status) → SpellsGrid bytes g → needed (length g.sizes) ≡ length g.sizes
+    → IsRefusedGrid needed bytes status → ⊥
+not_refused_grid needed bytes g _ spelled fits (no_header fault has) = header_or_fault bytes spelled.0 spelled.1 fault spelled.2 has
+not_refused_grid needed bytes g _ spelled fits (unfit k y q differ) =
     let same = one_head bytes spelled.0 k spelled.1 y spelled.2 q in
-    differ (fits ∙ ap (λ (x : Grid). length x.sizes) spelled.3.grid ∙ ap (λ (h : Header). length h.sizes) same.0)
-not_refused_grid d bytes g _ spelled fits (no_samples k y fault q own has) =
+    let axes : length g.sizes ≡ length k.sizes =
+    ap (λ (x : Grid). length x.sizes) spelled.3.grid ∙ ap (λ (h : Header). length h.sizes) same.0 in
+    differ (subst (λ (n : ℕ). needed n ≡ n) axes fits)
+not_refused_grid needed bytes g _ spelled fits (no_samples k y fault q own has) =
     let same = one_head bytes spelled.0 k spelled.1 y spelled.2 q in
     no_sample_fault k y g fault (subst (λ (h : Header). SpellsSamples h y g) same.0 (subst (λ (x : List ℕ). SpellsSamples spelled.0 x g) same.1 spelled.3)) has
 
@@ -85,5 +88,5 @@ not_refused_mesh files table grid t g status holds (by_table refused) = not_refu
 not_refused_mesh files table grid t g status holds (by_grid u held refused) =
     let tables = both_have files table (λ bytes. IsFileOf bytes t) (λ bytes. IsFileOf bytes u) holds.table.table.held held.table.held in
     let same : t ≡ u = one_file_table tables.0 u t tables.2.spelled tables.1.spelled in
-    let both = both_have files grid (λ bytes. SpellsGrid bytes g) (λ bytes. IsRefusedGrid u.dimension bytes status) holds.grid refused in
-    not_refused_grid u.dimension both.0 g status both.1 (sym (ap (λ (x : Table). x.dimension) same) ∙ holds.fits) both.2
+    let both = both_have files grid (λ bytes. SpellsGrid bytes g) (λ bytes. IsRefusedGrid (λ n. u.dimension) bytes status) holds.grid refused in
+    not_refused_grid (λ n. u.dimension) both.0 g status both.1 (sym (ap (λ (x : Table). x.dimension) same) ∙ holds.fits) both.2

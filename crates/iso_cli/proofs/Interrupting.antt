@@ -63,15 +63,15 @@ reading_leaves files name old new _ begun kind blames = absurd kind
 -- ---- the grid
 
 -- what was taken behind the header of a grid file
-pub samples_open : (files : Option Files) (name : List ℕ) (d : ℕ) (old middle new : Option (List ℕ)) (h : Header)
-    → BeginsFile {E = Failed} files old name (Ok tt) → HeaderIsRead old middle h → d ≡ length h.sizes → TakesSuch (IsOpenData h) middle new
-    → IsTakenFrom files name new (IsOpenGrid d)
-samples_open None name d old middle new h begun read fits takes = tt
-samples_open (Some files) name d None middle new h begun read fits takes = absurd (let none : IsSome {T = List ℕ} None = begun.1 in cc)
-samples_open (Some files) name d (Some bytes) middle new h begun (data_bytes, has, is) fits takes =
+pub samples_open : (files : Option Files) (name : List ℕ) (needed : ℕ → ℕ) (old middle new : Option (List ℕ)) (h : Header)
+    → BeginsFile {E = Failed} files old name (Ok tt) → HeaderIsRead old middle h → needed (length h.sizes) ≡ length h.sizes
+    → TakesSuch (IsOpenData h) middle new → IsTakenFrom files name new (IsOpenGrid needed)
+samples_open None name needed old middle new h begun read fits takes = tt
+samples_open (Some files) name needed None middle new h begun read fits takes = absurd (let none : IsSome {T = List ℕ} None = begun.1 in cc)
+samples_open (Some files) name needed (Some bytes) middle new h begun (data_bytes, has, is) fits takes =
     go new (subst (λ (o : Option (List ℕ)). TakesSuch (IsOpenData h) o new) is takes)
   where
-    go : (now : Option (List ℕ)) → TakesSuch (IsOpenData h) (Some data_bytes) now → IsTakenFrom (Some files) name now (IsOpenGrid d)
+    go : (now : Option (List ℕ)) → TakesSuch (IsOpenData h) (Some data_bytes) now → IsTakenFrom (Some files) name now (IsOpenGrid needed)
     go None took = absurd took.2
     go (Some left) took =
         let moved = header_moved bytes data_bytes took.0 left h has took.2 in
@@ -99,15 +99,16 @@ left_behind bytes front (Some old) (Some left) n is takes count =
 -- ---- what is left of the grid
 
 -- what a fault of the header leaves
-pub header_leaves : (files : Option Files) (name : List ℕ) (d : ℕ) (old new : Option (List ℕ)) (fault : GridFault)
+pub header_leaves : (files : Option Files) (name : List ℕ) (needed : ℕ → ℕ) (old new : Option (List ℕ)) (fault : GridFault)
     → BeginsFile {E = Failed} files old name (Ok tt) → IsTrue (is_header_fault fault)
-    → IfSome (blame_in fault) (λ count. TakesSuch IsOpenHeader old new) → LeavesGridFile files name d new (grid_status fault)
-header_leaves files name d old new (Faults.TooLarge count) begun of_header blames = absurd (false≢true of_header)
-header_leaves files name d old new (Faults.Shelf count) begun of_header blames = record {
+    → IfSome (blame_in fault) (λ count. TakesSuch IsOpenHeader old new) → LeavesGridFile files name needed new (grid_status fault)
+header_leaves files name needed old new (Faults.TooLarge count) begun of_header blames = absurd (false≢true of_header)
+header_leaves files name needed old new (Faults.Shelf count) begun of_header blames = record {
   samples = tt;
-  undecided = λ fault. taken_map files name new IsOpenHeader (IsOpenGrid d) (λ bytes open'. inl open') (taken_of files name old new IsOpenHeader begun blames);
+  undecided = λ fault.
+      taken_map files name new IsOpenHeader (IsOpenGrid needed) (λ bytes open'. inl open') (taken_of files name old new IsOpenHeader begun blames);
 }
-header_leaves files name d old new _ begun of_header blames = record { samples = tt; undecided = λ fault. absurd fault }
+header_leaves files name needed old new _ begun of_header blames = record { samples = tt; undecided = λ fault. absurd fault }
 
 -- a header was read, and all that stands behind it is left
 pub behind_read : (files : Option Files) (name : List ℕ) (old new : Option (List ℕ)) (h : Header) → BeginsFile {E = Failed} files old name (Ok tt)
@@ -117,19 +118,19 @@ behind_read files name old new h begun read =
     (λ bytes there rest. let behind = behind_header bytes old new h rest read in (h, behind.0, behind.1, behind.2))
 
 -- what a fault of the samples leaves
-pub samples_leave : (files : Option Files) (name : List ℕ) (d : ℕ) (old middle new : Option (List ℕ)) (h : Header) (fault : GridFault)
-    → BeginsFile {E = Failed} files old name (Ok tt) → HeaderIsRead old middle h → d ≡ length h.sizes
+pub samples_leave : (files : Option Files) (name : List ℕ) (needed : ℕ → ℕ) (old middle new : Option (List ℕ)) (h : Header) (fault : GridFault)
+    → BeginsFile {E = Failed} files old name (Ok tt) → HeaderIsRead old middle h → needed (length h.sizes) ≡ length h.sizes
     → ((count : ℕ) → fault ≡ Faults.TooLarge count → new ≡ middle)
-    → IfSome (blame_in fault) (λ count. TakesSuch (IsOpenData h) middle new) → LeavesGridFile files name d new (grid_status fault)
-samples_leave files name d old middle new h (Faults.TooLarge count) begun read fits untouched blames = record {
+    → IfSome (blame_in fault) (λ count. TakesSuch (IsOpenData h) middle new) → LeavesGridFile files name needed new (grid_status fault)
+samples_leave files name needed old middle new h (Faults.TooLarge count) begun read fits untouched blames = record {
   samples =
       subst (λ (o : Option (List ℕ)). FileHas files name (λ bytes. IsLeftBehindHeader bytes o)) (sym (untouched count refl))
       (behind_read files name old middle h begun read);
   undecided = λ fault. absurd fault;
 }
-samples_leave files name d old middle new h (Faults.Shelf count) begun read fits untouched blames =
-    record { samples = tt; undecided = λ fault. samples_open files name d old middle new h begun read fits blames }
-samples_leave files name d old middle new h _ begun read fits untouched blames = record { samples = tt; undecided = λ fault. absurd fault }
+samples_leave files name needed old middle new h (Faults.Shelf count) begun read fits untouched blames =
+    record { samples = tt; undecided = λ fault. samples_open files name needed old middle new h begun read fits blames }
+samples_leave files name needed old middle new h _ begun read fits untouched blames = record { samples = tt; undecided = λ fault. absurd fault }
 
 -- ---- what is left for a mesh
 
@@ -148,10 +149,10 @@ table_leaves files table grid rest _ kind leaves = absurd kind
 
 -- where the grid's file was read for an accepted table
 pub grid_leaves : (now files : Option Files) (table grid : List ℕ) (t : Table) (rest : Option (List ℕ)) (status : Status) → IsOfGrid status
-    → now ≡ files → HoldsAccepted files table t → LeavesGridFile now grid t.dimension rest status → LeavesMeshFile files table grid rest status
+    → now ≡ files → HoldsAccepted files table t → LeavesGridFile now grid (λ n. t.dimension) rest status → LeavesMeshFile files table grid rest status
 grid_leaves now files table grid t rest status kind stay held leaves =
-    let same : LeavesGridFile files grid t.dimension rest status =
-    subst (λ (fs : Option Files). LeavesGridFile fs grid t.dimension rest status) stay leaves in
+    let same : LeavesGridFile files grid (λ n. t.dimension) rest status =
+    subst (λ (fs : Option Files). LeavesGridFile fs grid (λ n. t.dimension) rest status) stay leaves in
     record { long = not_long status kind; samples = same.samples; undecided = λ fault. at_grid t held (same.undecided fault) }
   where
     not_long : (s : Status) → IsOfGrid s → LeavesLongTable files table s rest

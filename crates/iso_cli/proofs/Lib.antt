@@ -6,6 +6,7 @@ pub mod Putting
 pub mod Excluding
 pub mod Auditing
 pub mod Demonstrating
+pub mod Counting
 pub mod Answering
 pub mod OneRefusal
 pub mod TextSurfaces

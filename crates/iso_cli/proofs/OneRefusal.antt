@@ -7,7 +7,7 @@ use Rattle.iso_model.specs.Acceptance.{IsRefusedAt}
 use Rattle.iso_model.specs.Tables.{Table}
 use Rattle.iso_commands.specs.Commands.{Command, IsWrongWord}
 use Rattle.iso_commands.specs.Commands.{generate_command, check_command, extract_command, demo_command}
-use Rattle.iso_commands.specs.Commands.{convert_command, audit_command}
+use Rattle.iso_commands.specs.Commands.{convert_command, audit_command, spectrum_command}
 use Rattle.iso_formats.specs.GridFaults.{GridFault, HasHeaderFault, HasSampleFault, lines_fault}
 use Rattle.iso_formats.specs.GridFaults.{cut_off, no_magic, of_lines, overlong, too_many, unended}
 use Rattle.iso_formats.specs.GridFaults as fault
@@ -22,6 +22,7 @@ use Rattle.iso_words.proofs.WrongLemmas.{IsWrongWord-one, Say-one, never_said}
 use Rattle.iso_cli.specs.declared.status.Status.{Status}
 use Rattle.iso_cli.specs.declared.status.Status.TheVariants as Statuses
 use Rattle.iso_cli.specs.Audits.{IsRefusedAudit}
+use Rattle.iso_cli.specs.Axes.{axes_needed}
 use Rattle.iso_cli.specs.Demonstrations.{IsRefusedMade, made_refused}
 use Rattle.iso_cli.specs.OneAnswer.{HaveOneAnswer, LackWhereRefused}
 use Rattle.iso_cli.specs.Refusals.{IsFileOf, IsRefusedByRule, IsRefusedForm, IsRefusedGrid, IsRefusedMesh, IsRefusedTable}
@@ -122,19 +123,19 @@ same_sample_fault h data_bytes _ _ (overlong few long) (too_many more) = absurd 
 same_sample_fault h data_bytes _ _ (overlong few long) (cut_off few' short) = absurd (omega (arith, short, long))
 same_sample_fault h data_bytes _ _ (overlong few long) (overlong few' long') = refl
 
-one_grid_refusal : (d : ℕ) (bytes : List ℕ) (a b : Status) → IsRefusedGrid d bytes a → IsRefusedGrid d bytes b → a ≡ b
-one_grid_refusal d bytes _ _ (no_header f has) (no_header g has') = ap grid_refusal (same_header_fault bytes f g has has')
-one_grid_refusal d bytes _ _ (no_header f has) (unfit h x p differ) = absurd (header_or_fault bytes h x f p has)
-one_grid_refusal d bytes _ _ (no_header f has) (no_samples h x g p fits has') = absurd (header_or_fault bytes h x f p has)
-one_grid_refusal d bytes _ _ (unfit h x p differ) (no_header g has) = absurd (header_or_fault bytes h x g p has)
-one_grid_refusal d bytes _ _ (unfit h x p differ) (unfit k y q differ') =
-    ap (λ (j : Header). Statuses.Unfit d (length j.sizes)) (one_head bytes h k x y p q).0
-one_grid_refusal d bytes _ _ (unfit h x p differ) (no_samples k y g q fits has) =
-    absurd (differ (fits ∙ ap (λ (j : Header). length j.sizes) (sym (one_head bytes h k x y p q).0)))
-one_grid_refusal d bytes _ _ (no_samples h x f p fits has) (no_header g has') = absurd (header_or_fault bytes h x g p has')
-one_grid_refusal d bytes _ _ (no_samples h x f p fits has) (unfit k y q differ) =
-    absurd (differ (fits ∙ ap (λ (j : Header). length j.sizes) (one_head bytes h k x y p q).0))
-one_grid_refusal d bytes _ _ (no_samples h x f p fits has) (no_samples k y g q fits' has') =
+one_grid_refusal : (needed : ℕ → ℕ) (bytes : List ℕ) (a b : Status) → IsRefusedGrid needed bytes a → IsRefusedGrid needed bytes b → a ≡ b
+one_grid_refusal needed bytes _ _ (no_header f has) (no_header g has') = ap grid_refusal (same_header_fault bytes f g has has')
+one_grid_refusal needed bytes _ _ (no_header f has) (unfit h x p differ) = absurd (header_or_fault bytes h x f p has)
+one_grid_refusal needed bytes _ _ (no_header f has) (no_samples h x g p fits has') = absurd (header_or_fault bytes h x f p has)
+one_grid_refusal needed bytes _ _ (unfit h x p differ) (no_header g has) = absurd (header_or_fault bytes h x g p has)
+one_grid_refusal needed bytes _ _ (unfit h x p differ) (unfit k y q differ') =
+    ap (λ (j : Header). Statuses.Unfit (needed (length j.sizes)) (length j.sizes)) (one_head bytes h k x y p q).0
+one_grid_refusal needed bytes _ _ (unfit h x p differ) (no_samples k y g q fits has) =
+    absurd (differ (subst (λ (j : Header). needed (length j.sizes) ≡ length j.sizes) (sym (one_head bytes h k x y p q).0) fits))
+one_grid_refusal needed bytes _ _ (no_samples h x f p fits has) (no_header g has') = absurd (header_or_fault bytes h x g p has')
+one_grid_refusal needed bytes _ _ (no_samples h x f p fits has) (unfit k y q differ) =
+    absurd (differ (subst (λ (j : Header). needed (length j.sizes) ≡ length j.sizes) (one_head bytes h k x y p q).0 fits))
+one_grid_refusal needed bytes _ _ (no_samples h x f p fits has) (no_samples k y g q fits' has') =
     let same = one_head bytes h k x y p q in
     let moved : HasSampleFault h x g =
     subst (λ (j : Header). HasSampleFault j x g) (sym same.0) (subst (λ (z : List ℕ). HasSampleFault k z g) (sym same.1) has') in
@@ -152,9 +153,9 @@ one_mesh_refusal files table grid a b (by_grid t held p) (by_table q) = absurd (
 one_mesh_refusal files table grid a b (by_grid t held p) (by_grid u held' q) =
     let tables = both_have files table (λ bytes. IsFileOf bytes t) (λ bytes. IsFileOf bytes u) held.table.held held'.table.held in
     let same : t ≡ u = one_file_table tables.0 u t tables.2.spelled tables.1.spelled in
-    let both = both_have files grid (λ bytes. IsRefusedGrid t.dimension bytes a) (λ bytes. IsRefusedGrid u.dimension bytes b) p q in
-    let moved : IsRefusedGrid t.dimension both.0 b = subst (λ (x : Table). IsRefusedGrid x.dimension both.0 b) (sym same) both.2 in
-    one_grid_refusal t.dimension both.0 a b both.1 moved
+    let both = both_have files grid (λ bytes. IsRefusedGrid (λ n. t.dimension) bytes a) (λ bytes. IsRefusedGrid (λ n. u.dimension) bytes b) p q in
+    let moved : IsRefusedGrid (λ n. t.dimension) both.0 b = subst (λ (x : Table). IsRefusedGrid (λ n. x.dimension) both.0 b) (sym same) both.2 in
+    one_grid_refusal (λ n. t.dimension) both.0 a b both.1 moved
 
 one_refusal : (files : Files) (command : Command) (a b : Status) → AreRefused (Some files) a command → AreRefused (Some files) b command
     → a ≡ b
@@ -170,6 +171,9 @@ one_refusal files (convert_command table) a b p q =
 one_refusal files (audit_command mesh) a b p q =
     let both = both_have files mesh (λ bytes. IsRefusedAudit bytes a) (λ bytes. IsRefusedAudit bytes b) p q in
     one_audit_refusal both.0 a b both.1 both.2
+one_refusal files (spectrum_command kind grid from to) a b p q =
+    let both = both_have files grid (λ bytes. IsRefusedGrid (axes_needed kind) bytes a) (λ bytes. IsRefusedGrid (axes_needed kind) bytes b) p q in
+    one_grid_refusal (axes_needed kind) both.0 a b both.1 both.2
 
 -- ---- the words
 

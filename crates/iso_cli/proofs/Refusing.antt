@@ -1,5 +1,5 @@
 -- What the bytes of a file that was begun decide.
-use Rattle.std.proofs.Common.{◌≡◌, ◌≢◌, ℕ, length, List, Option, Some, None, IsSome, refl, sym, subst, ◌∙◌}
+use Rattle.std.proofs.Common.{◌≡◌, ◌≢◌, ℕ, length, List, Option, Some, None, IsSome, refl, sym, ap, subst, ◌∙◌}
 use Rattle.std.specs.Prelude.{Result, Ok, Err, IfErr, IfSome, IsErrAnd}
 use Rattle.iso_base.specs.declared.outside.Failed.{Failed}
 use Rattle.iso_base.specs.Files.{Files, bytes_of, BeginsFile}
@@ -84,21 +84,24 @@ by_cause R Q go (Faults.Shelf count) has decided = absurd decided
 by_cause R Q go Faults.Memory has decided = absurd decided
 
 -- a header that was not read is refused
-pub header_refused : (d : ℕ) (bytes : List ℕ) (fault : GridFault) → IfSome (cause_of fault) (cause.HasHeaderFault bytes) → IsDecided (grid_status fault)
-    → IsRefusedGrid d bytes (grid_status fault)
-header_refused d bytes fault has decided = by_cause (IsRefusedGrid d bytes) (cause.HasHeaderFault bytes) (λ c h. no_header c h) fault has decided
+pub header_refused : (needed : ℕ → ℕ) (bytes : List ℕ) (fault : GridFault) → IfSome (cause_of fault) (cause.HasHeaderFault bytes)
+    → IsDecided (grid_status fault) → IsRefusedGrid needed bytes (grid_status fault)
+header_refused needed bytes fault has decided =
+    by_cause (IsRefusedGrid needed bytes) (cause.HasHeaderFault bytes) (λ c h. no_header c h) fault has decided
 
 -- samples that were not read behind a header are refused
-pub samples_refused : (d : ℕ) (bytes data_bytes : List ℕ) (h : Header) (fault : GridFault) → HasHeader bytes h data_bytes → d ≡ length h.sizes
-    → IfSome (cause_of fault) (cause.HasSampleFault h data_bytes) → IsDecided (grid_status fault) → IsRefusedGrid d bytes (grid_status fault)
-samples_refused d bytes data_bytes h fault p fits has decided =
-    by_cause (IsRefusedGrid d bytes) (cause.HasSampleFault h data_bytes) (λ c s. no_samples h data_bytes c p fits s) fault has decided
+pub samples_refused : (needed : ℕ → ℕ) (bytes data_bytes : List ℕ) (h : Header) (fault : GridFault) → HasHeader bytes h data_bytes
+    → needed (length h.sizes) ≡ length h.sizes → IfSome (cause_of fault) (cause.HasSampleFault h data_bytes) → IsDecided (grid_status fault)
+    → IsRefusedGrid needed bytes (grid_status fault)
+samples_refused needed bytes data_bytes h fault p fits has decided =
+    by_cause (IsRefusedGrid needed bytes) (cause.HasSampleFault h data_bytes) (λ c s. no_samples h data_bytes c p fits s) fault has decided
 
 -- a header of another dimension is refused
-pub unfit_refused : (d dims : ℕ) (bytes data_bytes : List ℕ) (h : Header) → HasHeader bytes h data_bytes → length h.sizes ≡ dims → dims ≢ d
-    → IsRefusedGrid d bytes (Unfit d dims)
-unfit_refused d dims bytes data_bytes h p same differ =
-    subst (λ (n : ℕ). IsRefusedGrid d bytes (Unfit d n)) same (unfit h data_bytes p (λ e. differ (sym same ∙ sym e)))
+pub unfit_refused : (needed : ℕ → ℕ) (dims : ℕ) (bytes data_bytes : List ℕ) (h : Header) → HasHeader bytes h data_bytes → length h.sizes ≡ dims
+    → dims ≢ needed dims → IsRefusedGrid needed bytes (Unfit (needed dims) dims)
+unfit_refused needed dims bytes data_bytes h p same differ =
+    subst (λ (n : ℕ). IsRefusedGrid needed bytes (Unfit (needed n) n)) same
+    (unfit h data_bytes p (λ e. differ (sym same ∙ sym e ∙ ap needed same)))
 
 -- what is left behind a header that was read
 pub behind_header : (bytes : List ℕ) (old new : Option (List ℕ)) (h : Header) → old ≡ Some bytes → HeaderIsRead old new h

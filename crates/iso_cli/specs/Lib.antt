@@ -3,11 +3,13 @@ pub mod StatusCauses
 pub mod Statuses
 pub mod Checked
 pub mod Shelves
+pub mod Axes
 pub mod Refusals
 pub mod Rests
 pub mod Outputs
 pub mod Audits
 pub mod Demonstrations
+pub mod Spectra
 pub mod Meanings
 pub mod Runs
 pub mod OneAnswer

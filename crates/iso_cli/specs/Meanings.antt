@@ -2,15 +2,18 @@
 use Rattle.std.specs.Prelude.{◌≡◌, ℕ, List, [], ◌∷◌, Option, None, ⊤}
 use Rattle.iso_base.specs.Files.{Files, bytes_of}
 use Rattle.iso_commands.specs.Commands.{Command, generate_command, check_command, extract_command, demo_command}
-use Rattle.iso_commands.specs.Commands.{convert_command, audit_command}
+use Rattle.iso_commands.specs.Commands.{convert_command, audit_command, spectrum_command}
 use Rattle.iso_model.specs.Tables.{Table}
 use Rattle.iso_model.specs.Values.{Grid}
 use Rattle.iso_cli.specs.declared.status.Status.{Status}
+use Rattle.iso_cli.specs.Axes.{axes_needed}
 use Rattle.iso_cli.specs.Audits.{HoldsGlued, IsCleanLine, IsRefusedAudit, LeavesOff}
 use Rattle.iso_cli.specs.Demonstrations.{IsDemonstration, IsMadeAccepted, IsRefusedMade}
 use Rattle.iso_cli.specs.Outputs.{IsAcceptance, IsConverted, IsGenerated, IsMeshText}
-use Rattle.iso_cli.specs.Refusals.{HoldBoth, HoldsAccepted, HoldsTable, IsRefusedFile, IsRefusedForm, IsRefusedMesh, IsRefusedTable, LacksMeshFile}
-use Rattle.iso_cli.specs.Rests.{LeavesMeshFile, LeavesTableFile}
+use Rattle.iso_cli.specs.Refusals.{HoldBoth, HoldsAccepted, HoldsTable, IsRefusedFile, IsRefusedForm, IsRefusedGrid, IsRefusedMesh, IsRefusedTable}
+use Rattle.iso_cli.specs.Refusals.{LacksMeshFile}
+use Rattle.iso_cli.specs.Rests.{LeavesGridFile, LeavesMeshFile, LeavesTableFile}
+use Rattle.iso_cli.specs.Spectra.{HoldsGrid, IsSpectrumText}
 
 -- what a command reads, needs, refuses and puts: the names of its files; that the files hold what it needs; that they are refused with a status;
 -- what is left after that of the file that was read last; that one that it names is not there, and none is refused that is read before it; and that a
@@ -81,4 +84,13 @@ meaning (audit_command mesh) = record {
   leaves = λ files status rest. LeavesOff files mesh rest status;
   lacks = λ files. bytes_of files mesh ≡ None;
   puts = λ files text. IsCleanLine files mesh text;
+}
+-- the spectrum of a grid whose dimension cells of the kind have
+meaning (spectrum_command kind grid from to) = record {
+  reads = grid ∷ [];
+  needs = λ files. (g : Grid) × HoldsGrid files grid kind g;
+  refuses = λ files status. IsRefusedFile files grid (IsRefusedGrid (axes_needed kind)) status;
+  leaves = λ files status rest. LeavesGridFile files grid (axes_needed kind) rest status;
+  lacks = λ files. bytes_of files grid ≡ None;
+  puts = λ files text. IsSpectrumText files grid kind from to text;
 }

@@ -89,13 +89,14 @@ grid_refusal (sizes_too_large count) = Statuses.GridLarge count
 grid_refusal (data_too_short count) = Statuses.GridForm (GridCauses.DataShort count)
 grid_refusal data_trailing = Statuses.GridForm GridCauses.Trailing
 
--- the bytes of a grid file are refused for a table of dimension d: they begin with no well-formed header, or its dimension is another one, or the
--- bytes behind it spell no samples
-pub data IsRefusedGrid (d : ℕ) (bytes : List ℕ) : Status → Type 0 where
-  no_header : (fault : GridFault) → HasHeaderFault bytes fault → IsRefusedGrid d bytes (grid_refusal fault)
-  unfit : (h : Header) (data_bytes : List ℕ) → HasHeader bytes h data_bytes → d ≢ length h.sizes → IsRefusedGrid d bytes (Statuses.Unfit d (length h.sizes))
-  no_samples : (h : Header) (data_bytes : List ℕ) (fault : GridFault) → HasHeader bytes h data_bytes → d ≡ length h.sizes
-      → HasSampleFault h data_bytes fault → IsRefusedGrid d bytes (grid_refusal fault)
+-- the bytes of a grid file are refused, where a dimension is needed of a grid that has this one: they begin with no well-formed header, or its
+-- dimension is not the one that is needed, or the bytes behind it spell no samples
+pub data IsRefusedGrid (needed : ℕ → ℕ) (bytes : List ℕ) : Status → Type 0 where
+  no_header : (fault : GridFault) → HasHeaderFault bytes fault → IsRefusedGrid needed bytes (grid_refusal fault)
+  unfit : (h : Header) (data_bytes : List ℕ) → HasHeader bytes h data_bytes → needed (length h.sizes) ≢ length h.sizes
+      → IsRefusedGrid needed bytes (Statuses.Unfit (needed (length h.sizes)) (length h.sizes))
+  no_samples : (h : Header) (data_bytes : List ℕ) (fault : GridFault) → HasHeader bytes h data_bytes → needed (length h.sizes) ≡ length h.sizes
+      → HasSampleFault h data_bytes fault → IsRefusedGrid needed bytes (grid_refusal fault)
 
 -- ---- a table and a grid
 
@@ -108,7 +109,7 @@ pub record HoldBoth (files : Option Files) (table_name grid_name : List ℕ) (t 
 -- a mesh is refused: its table file is, or that holds an accepted table, and then the grid file is refused for it
 pub data IsRefusedMesh (files : Option Files) (table_name grid_name : List ℕ) (status : Status) : Type 0 where
   by_table : FileHas files table_name (λ bytes. IsRefusedTable bytes status) → IsRefusedMesh files table_name grid_name status
-  by_grid : (t : Table) → HoldsAccepted files table_name t → FileHas files grid_name (λ bytes. IsRefusedGrid t.dimension bytes status)
+  by_grid : (t : Table) → HoldsAccepted files table_name t → FileHas files grid_name (λ bytes. IsRefusedGrid (λ n. t.dimension) bytes status)
       → IsRefusedMesh files table_name grid_name status
 
 -- a file that a mesh needs is not there: that of the table; or that of the grid, where the other one holds an accepted table

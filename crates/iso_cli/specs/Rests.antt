@@ -44,16 +44,17 @@ IsOpenTable bytes = ¬ IsFileTooLong bytes
 abbrev pub IsTableFront : List ℕ → Type 0
 IsTableFront bytes = length bytes ≤ limit_of bytes + 1
 
--- for a table of dimension d, bytes of a grid file decide nothing: they can still begin a header that is not ended, or they begin with a header of
--- this dimension, and nothing is decided by what stands behind it
-abbrev pub IsOpenGrid : ℕ → List ℕ → Type 0
-IsOpenGrid d bytes =
-    IsOpenHeader bytes ⊎ ((h : Header) × (data_bytes : List ℕ) × HasHeader bytes h data_bytes × (d ≡ length h.sizes) × IsOpenData h data_bytes)
+-- where a dimension is needed of a grid that has this one, bytes of a grid file decide nothing: they can still begin a header that is not ended, or
+-- they begin with a header of the dimension that is needed, and nothing is decided by what stands behind it
+abbrev pub IsOpenGrid : (ℕ → ℕ) → List ℕ → Type 0
+IsOpenGrid needed bytes =
+    IsOpenHeader bytes
+    ⊎ ((h : Header) × (data_bytes : List ℕ) × HasHeader bytes h data_bytes × (needed (length h.sizes) ≡ length h.sizes) × IsOpenData h data_bytes)
 
 -- a fault came where nothing of a mesh was refused: while the table's file was read, or, where that holds an accepted table, the grid's
 pub data IsInterrupted (files : Option Files) (table grid : List ℕ) (rest : Option (List ℕ)) : Type 0 where
   at_table : IsTakenFrom files table rest IsOpenTable → IsInterrupted files table grid rest
-  at_grid : (t : Table) → HoldsAccepted files table t → IsTakenFrom files grid rest (IsOpenGrid t.dimension) → IsInterrupted files table grid rest
+  at_grid : (t : Table) → HoldsAccepted files table t → IsTakenFrom files grid rest (IsOpenGrid (λ n. t.dimension)) → IsInterrupted files table grid rest
 
 -- ---- by the files that a command reads
 
@@ -62,10 +63,10 @@ pub record LeavesTableFile (files : Option Files) (name : List ℕ) (rest : Opti
   pub long : LeavesLongTable files name status rest
   pub undecided : IsShelfFault status → IsTakenFrom files name rest IsOpenTable
 
--- what is left of a grid file that is read for a table of dimension d
-pub record LeavesGridFile (files : Option Files) (name : List ℕ) (d : ℕ) (rest : Option (List ℕ)) (status : Status) : Type 0 where
+-- what is left of a grid file, where a dimension is needed of a grid that has this one
+pub record LeavesGridFile (files : Option Files) (name : List ℕ) (needed : ℕ → ℕ) (rest : Option (List ℕ)) (status : Status) : Type 0 where
   pub samples : LeavesSamples files name status rest
-  pub undecided : IsShelfFault status → IsTakenFrom files name rest (IsOpenGrid d)
+  pub undecided : IsShelfFault status → IsTakenFrom files name rest (IsOpenGrid needed)
 
 -- what is left of the file that was read last for a mesh
 pub record LeavesMeshFile (files : Option Files) (table grid : List ℕ) (rest : Option (List ℕ)) (status : Status) : Type 0 where

@@ -13,6 +13,7 @@ ghost use Rattle.iso_cli.specs.Checked.{checked_in};
 ghost use Rattle.iso_cli.specs.Refusals.{FileHas, HoldBoth, HoldsAccepted, HoldsTable, LacksMeshFile};
 ghost use Rattle.iso_cli.specs.Refusals.{IsRefusedFile, IsRefusedForm, IsRefusedGrid, IsRefusedMesh, IsRefusedTable};
 ghost use Rattle.iso_cli.specs.Rests.{IsOpenTable, IsTableFront, LeavesGridFile, LeavesMeshFile, LeavesTableFile};
+ghost use Rattle.iso_cli.specs.Axes.{needed_by};
 ghost use Rattle.iso_cli.specs.Shelves.{AreFrontOf, BlamesShelf, BlamesWhile, FailsOnlyFor};
 ghost use Rattle.iso_cli.specs.Statuses.{IfDecided, IsOfFiles, IsOfForm, IsOfGrid, IsOfReading, IsOfTable, IsShelfFault};
 
@@ -20,6 +21,7 @@ use crate::checked::{CheckedTable, certify_any, dimension};
 use crate::read::read_front;
 use crate::status::{Status, TableForm};
 use crate::workers::Workers;
+use cell_lattice::Kind;
 use iso_base::{Gate, Shelf};
 use nrrd_raw::{Grid, read_header, read_samples};
 use std::alloc::Global;
@@ -100,28 +102,51 @@ pub fn read_checked<R: Threads + Sync, S: Shelf, G: Gate + Sync>(
     certify_any(workers, table)
 }
 
-/// Reads the grid of a file, which is to have as many axes as a table has dimensions.
-fn read_grid<S: Shelf>(
+/// How many axes a grid is to have.
+#[derive(Clone, Copy)]
+pub enum Axes {
+    /// As many as a table has dimensions.
+    Just(u8),
+    /// As many as cells of a kind have dimensions.
+    Of(Kind),
+}
+
+impl Axes {
+    // How many are needed of a grid that has so many.
+    fn needed(self, dims: u8) -> u8
+        ensures { result ≡ needed_by self dims }
+    {
+        match self {
+            Axes::Just(dimension) => dimension,
+            Axes::Of(Kind::Pyramid) => 3,
+            Axes::Of(Kind::Cube | Kind::Simplex) => dims,
+        }
+    }
+}
+
+/// Reads the grid of a file, which is to have as many axes as are needed.
+pub fn read_grid<S: Shelf>(
     alloc: Global,
     shelf: &mut S,
     name: &str,
-    dimension: u8,
+    axes: Axes,
 ) -> Result<Grid, Status>
     ensures shelf { IsSameShelf S.faults S.files S.sound shelf.old shelf.new }
     ensures blamed { IfErr result (λ status. BlamesShelf status (S.faults shelf.old) (S.faults shelf.new)) }
     ensures missing { FailsOnlyFor (bytes_of (S.files shelf.old) name.now ≡ None) (S.sound shelf.old) result }
     ensures kinds { IfErr result IsOfGrid }
-    ensures refused { IfDecided result (IsRefusedFile (S.files shelf.old) name.now (IsRefusedGrid dimension)) }
-    ensures left { IfErr result (LeavesGridFile (S.files shelf.old) name.now dimension (S.rest shelf.new)) }
+    ensures refused { IfDecided result (IsRefusedFile (S.files shelf.old) name.now (IsRefusedGrid (needed_by axes))) }
+    ensures left { IfErr result (LeavesGridFile (S.files shelf.old) name.now (needed_by axes) (S.rest shelf.new)) }
     ensures held { IfOk result (λ grid. FileHas (S.files shelf.old) name.now (λ bytes. SpellsGrid bytes grid)) }
-    ensures fits { IfOk result (λ grid. dimension ≡ length grid.sizes) }
+    ensures fits { IfOk result (λ grid. needed_by axes (length grid.sizes) ≡ length grid.sizes) }
     ensures regular { IfOk result IsRegularGrid }
 {
     shelf.begin(name)?;
     let header = read_header(shelf)?;
-    if header.dims != dimension {
+    let needed = axes.needed(header.dims);
+    if header.dims != needed {
         return Err(Status::Unfit {
-            table: dimension,
+            table: needed,
             grid: header.dims,
         });
     }
@@ -146,6 +171,7 @@ pub fn read_both<R: Threads + Sync, S: Shelf, G: Gate + Sync>(
     ensures regular { IfOk result (λ both. IsRegularGrid both.1) }
 {
     let table = read_checked(workers, shelf, table)?;
-    let grid = read_grid(workers.alloc, shelf, grid, dimension(&table))?;
+    let axes = Axes::Just(dimension(&table));
+    let grid = read_grid(workers.alloc, shelf, grid, axes)?;
     Ok((table, grid))
 }

@@ -10,6 +10,7 @@ mod line;
 mod output;
 mod program;
 mod read;
+mod spectra;
 mod status;
 mod workers;
 

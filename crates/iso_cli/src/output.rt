@@ -43,8 +43,8 @@ pub fn put_clean<O: Sink>(boundary: u64, out: &mut O) -> Status
     put_bytes(text.as_str().as_bytes(), out)
 }
 
-// Puts these bytes.
-fn put_bytes<O: Sink>(bytes: &[u8], out: &mut O) -> Status
+/// Puts these bytes.
+pub fn put_bytes<O: Sink>(bytes: &[u8], out: &mut O) -> Status
     ensures kinds { IsOfPutting result }
     ensures output { LeavesOutput O.faults O.bytes (λ text. text ≡ bytes.now) result out.old out.new }
 {

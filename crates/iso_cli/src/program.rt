@@ -3,6 +3,7 @@
 ghost use Rattle.std.specs.Prelude.{◌≡◌, ◌^◌, ◌≤◌, IsSome, unsigned_abs};
 ghost use Rattle.iso_base.specs.Faults.{Rose};
 ghost use Rattle.iso_commands.specs.Commands.{audit_command, check_command, convert_command, extract_command};
+ghost use Rattle.iso_commands.specs.Commands.{IsRange, spectrum_command};
 ghost use Rattle.iso_words.specs.Built.{EachSaid, texts};
 ghost use Rattle.iso_cli.specs.Outputs.{LeavesOutput};
 ghost use Rattle.iso_cli.specs.Runs.{HoldNeeded, IsAnswerable, IsOutput, IsTrueAnswer, IsTrueOf, LacksFile, SayBuilt};
@@ -14,8 +15,10 @@ use crate::demo::put_demonstration;
 use crate::files::{read_both, read_checked, read_table};
 use crate::line::status_text;
 use crate::output::{put_accepted, put_clean, put_mesh, put_table, put_version_2};
+use crate::spectra::{put_spectrum, read_grid_for};
 use crate::status::Status;
 use crate::workers::Workers;
+use cell_lattice::Kind;
 use iso_base::{Gate, Shelf, Sink, put_all};
 use iso_words::{Command, WrongWord, parse};
 use std::alloc::Global;
@@ -100,6 +103,14 @@ fn perform<R: Threads + Sync, S: Shelf, O: Sink, G: Gate + Sync>(
         ) => put_demonstration(workers, kind, dim, size, seed, out),
         Ok(Command::Convert { table }) => convert(workers.alloc, table, shelf, out),
         Ok(Command::Audit { mesh }) => audit(workers.alloc, mesh, shelf, out),
+        Ok(
+            Command::Spectrum {
+                kind,
+                grid,
+                from,
+                to,
+            },
+        ) => count(workers.alloc, kind, grid, from, to, shelf, out),
         Err(WrongWord(place)) => Status::Usage(place),
     }
 }
@@ -153,6 +164,33 @@ fn audit<S: Shelf, O: Sink>(alloc: Global, mesh: &str, shelf: &mut S, out: &mut 
 {
     match read_glued(alloc, shelf, mesh) {
         Ok(boundary) => put_clean(boundary, out),
+        Err(status) => status,
+    }
+}
+
+// Says how many vertices the mesh of a grid has at each isovalue of a range.
+fn count<S: Shelf, O: Sink>(
+    alloc: Global,
+    kind: Kind,
+    grid: &str,
+    from: i64,
+    to: i64,
+    shelf: &mut S,
+    out: &mut O,
+) -> Status
+    requires from { unsigned_abs from ≤ 2 ^ 40 }
+    requires to { unsigned_abs to ≤ 2 ^ 40 }
+    requires range { IsRange from to }
+    ensures known { ¬ IsUsage result }
+    ensures answer { IsTrueOf (S.files shelf.old) result (spectrum_command kind grid.now from to) }
+    ensures shelf { LeavesShelf S.faults S.files S.sound
+        (LacksFile (S.files shelf.old) (spectrum_command kind grid.now from to)) result shelf.old shelf.new }
+    ensures output { LeavesOutput O.faults O.bytes
+        (λ text. IsOutput (S.files shelf.old) text (spectrum_command kind grid.now from to)) result out.old out.new }
+    ensures left { LeavesRest (S.files shelf.old) result (S.rest shelf.new) (spectrum_command kind grid.now from to) }
+{
+    match read_grid_for(alloc, shelf, grid, kind) {
+        Ok(grid) => put_spectrum(alloc, kind, &grid, from, to, out),
         Err(status) => status,
     }
 }

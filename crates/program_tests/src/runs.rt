@@ -15,6 +15,7 @@ mod decided;
 mod demonstrated;
 mod generated;
 mod parts;
+mod spectra;
 mod watched;
 
 use watched::{WatchedShelf, WatchedSink};

@@ -17,8 +17,8 @@ returns-in_err-grid-clause-refused g c =
     → IsRefusedMesh (g.S.Shelf.files c.args.shelf.now) c.args.table.now c.args.grid.now c.in_err-grid.field-0.0 =
     λ decided. by_grid (checked_in c.in_ok-table.table) c.in_ok-table.ensures.held
     (file_stays (g.S.Shelf.files c.read_checked.new.shelf) (g.S.Shelf.files c.args.shelf.now) c.args.grid.now
-    (λ bytes. IsRefusedGrid (checked_in c.in_ok-table.table).dimension bytes c.in_err-grid.field-0.0) c.in_ok-table.ensures.shelf.stay
-    (subst (λ (n : ℕ). FileHas (g.S.Shelf.files c.read_checked.new.shelf) c.args.grid.now (λ bytes. IsRefusedGrid n bytes c.in_err-grid.field-0.0))
+    (λ bytes. IsRefusedGrid (λ n. (checked_in c.in_ok-table.table).dimension) bytes c.in_err-grid.field-0.0) c.in_ok-table.ensures.shelf.stay
+    (subst (λ (d : ℕ). FileHas (g.S.Shelf.files c.read_checked.new.shelf) c.args.grid.now (λ bytes. IsRefusedGrid (λ n. d) bytes c.in_err-grid.field-0.0))
     c.dimension.ensures (c.in_err-grid.ensures.refused decided))) in
     IfErr-more c.from_residual-in_err-grid.result (λ status. status ≡ c.in_err-grid.field-0.0) _ c.from_residual-in_err-grid.ensures.1
     (λ status is. subst (λ (s : Status). IsDecided s → IsRefusedMesh (g.S.Shelf.files c.args.shelf.now) c.args.table.now c.args.grid.now s) (sym is) refused)
@@ -57,11 +57,11 @@ returns-in_err-table-clause-left g c =
 
 pub returns-in_err-grid-clause-left : goal.returns-in_err-grid-clause-left
 returns-in_err-grid-clause-left g c =
-    let leaves : LeavesGridFile (g.S.Shelf.files c.read_checked.new.shelf) c.args.grid.now (checked_in c.in_ok-table.table).dimension
+    let leaves : LeavesGridFile (g.S.Shelf.files c.read_checked.new.shelf) c.args.grid.now (λ n. (checked_in c.in_ok-table.table).dimension)
     (g.S.Shelf.rest c.read_grid.new.shelf) c.in_err-grid.field-0.0 =
     subst
-    (λ (n : ℕ).
-    LeavesGridFile (g.S.Shelf.files c.read_checked.new.shelf) c.args.grid.now n (g.S.Shelf.rest c.read_grid.new.shelf) c.in_err-grid.field-0.0)
+    (λ (d : ℕ).
+    LeavesGridFile (g.S.Shelf.files c.read_checked.new.shelf) c.args.grid.now (λ n. d) (g.S.Shelf.rest c.read_grid.new.shelf) c.in_err-grid.field-0.0)
     c.dimension.ensures c.in_err-grid.ensures.left in
     IfErr-more c.from_residual-in_err-grid.result (λ status. status ≡ c.in_err-grid.field-0.0) _ c.from_residual-in_err-grid.ensures.1
     (λ status is.

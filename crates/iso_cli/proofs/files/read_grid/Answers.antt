@@ -1,4 +1,4 @@
-use Rattle.std.proofs.Common.{◌≡◌, ◌≢◌, length, subst, sym, ap, ◌∙◌}
+use Rattle.std.proofs.Common.{◌≡◌, ◌≢◌, ℕ, List, length, subst, sym, ap, ◌∙◌}
 use Rattle.iso_formats.specs.GridFile.{SpellsGrid, SpellsSamples, Header}
 use Rattle.iso_formats.specs.GridFaults.{HasHeaderFault, HasSampleFault}
 use Rattle.std.specs.Prelude.{Err, IfSome}
@@ -7,6 +7,7 @@ use Rattle.nrrd_raw.specs.Shapes.{axes-stated}
 use Rattle.iso_cli.specs.declared.status.Status.{Status}
 use Rattle.iso_cli.specs.declared.status.Status.TheVariants.{Unfit}
 use Rattle.iso_cli.specs.StatusCauses.{grid_status}
+use Rattle.iso_cli.specs.Axes.{needed_by}
 use Rattle.iso_cli.specs.Refusals.{FileHas, IsRefusedGrid}
 use Rattle.iso_cli.specs.Rests.{LeavesGridFile}
 use Rattle.iso_cli.specs.Statuses.{IsDecided}
@@ -18,49 +19,52 @@ pub returns-in_err-header-clause-refused : goal.returns-in_err-header-clause-ref
 returns-in_err-header-clause-refused g c =
     let refused : IsDecided (grid_status c.in_err-header.field-0.0)
     → FileHas (g.S.Shelf.files c.args.shelf.now) c.args.name.now
-    (λ bytes. IsRefusedGrid c.args.dimension bytes (grid_status c.in_err-header.field-0.0)) =
+    (λ bytes. IsRefusedGrid (needed_by c.args.axes) bytes (grid_status c.in_err-header.field-0.0)) =
     λ decided.
     file_has (g.S.Shelf.files c.args.shelf.now) c.args.name.now (g.S.Shelf.rest c.begin.new.self)
-    (λ bytes. IsRefusedGrid c.args.dimension bytes (grid_status c.in_err-header.field-0.0)) c.in_ok-begin.ensures.begun
-    (λ bytes there rest. header_refused c.args.dimension bytes c.in_err-header.field-0.0
+    (λ bytes. IsRefusedGrid (needed_by c.args.axes) bytes (grid_status c.in_err-header.field-0.0)) c.in_ok-begin.ensures.begun
+    (λ bytes there rest. header_refused (needed_by c.args.axes) bytes c.in_err-header.field-0.0
     (known (g.S.Shelf.rest c.begin.new.self) bytes (λ bs. IfSome (cause_of c.in_err-header.field-0.0) (HasHeaderFault bs)) rest
     c.in_err-header.ensures.cause) decided) in
     IfErr-more c.from_residual-in_err-header.result (λ status. status ≡ grid_status c.in_err-header.field-0.0) _ c.from_residual-in_err-header.ensures.1
     (λ status is.
     subst
     (λ (s : Status).
-    IsDecided s → FileHas (g.S.Shelf.files c.args.shelf.now) c.args.name.now (λ bytes. IsRefusedGrid c.args.dimension bytes s))
+    IsDecided s → FileHas (g.S.Shelf.files c.args.shelf.now) c.args.name.now (λ bytes. IsRefusedGrid (needed_by c.args.axes) bytes s))
     (sym is) refused)
 
-pub returns-then-header-dimension-clause-refused : goal.returns-then-header-dimension-clause-refused
-returns-then-header-dimension-clause-refused g c = λ decided.
+pub returns-then-header-needed-clause-refused : goal.returns-then-header-needed-clause-refused
+returns-then-header-needed-clause-refused g c = λ decided.
     let same : length c.in_ok-header.header.sizes ≡ c.header.inside.dims =
     ap (λ (h : Header). length h.sizes) (sym c.header.view_is) ∙ axes-stated c.header.inside.dims c.header.inside.sizes c.header.invariant in
-    let differ : c.header.inside.dims ≢ c.args.dimension = c.if-header-dimension.true in
+    let is : c.needed-needed.result ≡ needed_by c.args.axes c.header.inside.dims = c.needed-needed.ensures in
+    let differ : c.header.inside.dims ≢ needed_by c.args.axes c.header.inside.dims = λ e. c.if-header-needed.true (e ∙ sym is) in
     file_has (g.S.Shelf.files c.args.shelf.now) c.args.name.now (g.S.Shelf.rest c.begin.new.self)
-    (λ bytes. IsRefusedGrid c.args.dimension bytes (Unfit c.args.dimension c.header.inside.dims)) c.in_ok-begin.ensures.begun
+    (λ bytes. IsRefusedGrid (needed_by c.args.axes) bytes (Unfit c.needed-needed.result c.header.inside.dims)) c.in_ok-begin.ensures.begun
     (λ bytes there rest.
     let behind =
     behind_header bytes (g.S.Shelf.rest c.begin.new.self) (g.S.Shelf.rest c.read_header.new.shelf) c.in_ok-header.header rest
     c.in_ok-header.ensures.read in
-    unfit_refused c.args.dimension c.header.inside.dims bytes behind.0 c.in_ok-header.header behind.1 same differ)
+    subst (λ (n : ℕ). IsRefusedGrid (needed_by c.args.axes) bytes (Unfit n c.header.inside.dims)) (sym is)
+    (unfit_refused (needed_by c.args.axes) c.header.inside.dims bytes behind.0 c.in_ok-header.header behind.1 same differ))
 
 pub returns-in_err-read_samples-clause-refused : goal.returns-in_err-read_samples-clause-refused
 returns-in_err-read_samples-clause-refused g c =
     let same : length c.in_ok-header.header.sizes ≡ c.header.inside.dims =
     ap (λ (h : Header). length h.sizes) (sym c.header.view_is) ∙ axes-stated c.header.inside.dims c.header.inside.sizes c.header.invariant in
-    let fits : c.args.dimension ≡ length c.in_ok-header.header.sizes = sym (same ∙ c.if-header-dimension.false) in
+    let fits : needed_by c.args.axes (length c.in_ok-header.header.sizes) ≡ length c.in_ok-header.header.sizes =
+    subst (λ (n : ℕ). needed_by c.args.axes n ≡ n) (sym same) (sym c.needed-needed.ensures ∙ sym c.if-header-needed.false) in
     let refused : IsDecided (grid_status c.in_err-read_samples.field-0.0)
     → FileHas (g.S.Shelf.files c.args.shelf.now) c.args.name.now
-    (λ bytes. IsRefusedGrid c.args.dimension bytes (grid_status c.in_err-read_samples.field-0.0)) =
+    (λ bytes. IsRefusedGrid (needed_by c.args.axes) bytes (grid_status c.in_err-read_samples.field-0.0)) =
     λ decided.
     file_has (g.S.Shelf.files c.args.shelf.now) c.args.name.now (g.S.Shelf.rest c.begin.new.self)
-    (λ bytes. IsRefusedGrid c.args.dimension bytes (grid_status c.in_err-read_samples.field-0.0)) c.in_ok-begin.ensures.begun
+    (λ bytes. IsRefusedGrid (needed_by c.args.axes) bytes (grid_status c.in_err-read_samples.field-0.0)) c.in_ok-begin.ensures.begun
     (λ bytes there rest.
     let behind =
     behind_header bytes (g.S.Shelf.rest c.begin.new.self) (g.S.Shelf.rest c.read_header.new.shelf) c.in_ok-header.header rest
     c.in_ok-header.ensures.read in
-    samples_refused c.args.dimension bytes behind.0 c.in_ok-header.header c.in_err-read_samples.field-0.0 behind.1 fits
+    samples_refused (needed_by c.args.axes) bytes behind.0 c.in_ok-header.header c.in_err-read_samples.field-0.0 behind.1 fits
     (known (g.S.Shelf.rest c.read_header.new.shelf) behind.0
     (λ bs. IfSome (cause_of c.in_err-read_samples.field-0.0) (HasSampleFault c.in_ok-header.header bs)) behind.2
     c.in_err-read_samples.ensures.cause) decided) in
@@ -69,7 +73,7 @@ returns-in_err-read_samples-clause-refused g c =
     (λ status is.
     subst
     (λ (s : Status).
-    IsDecided s → FileHas (g.S.Shelf.files c.args.shelf.now) c.args.name.now (λ bytes. IsRefusedGrid c.args.dimension bytes s))
+    IsDecided s → FileHas (g.S.Shelf.files c.args.shelf.now) c.args.name.now (λ bytes. IsRefusedGrid (needed_by c.args.axes) bytes s))
     (sym is) refused)
 
 pub returns-clause-held : goal.returns-clause-held
@@ -88,20 +92,20 @@ returns-clause-held g c =
 
 pub returns-in_err-header-clause-left : goal.returns-in_err-header-clause-left
 returns-in_err-header-clause-left g c =
-    let leaves : LeavesGridFile (g.S.Shelf.files c.args.shelf.now) c.args.name.now c.args.dimension (g.S.Shelf.rest c.read_header.new.shelf)
+    let leaves : LeavesGridFile (g.S.Shelf.files c.args.shelf.now) c.args.name.now (needed_by c.args.axes) (g.S.Shelf.rest c.read_header.new.shelf)
     (grid_status c.in_err-header.field-0.0) =
-    header_leaves (g.S.Shelf.files c.args.shelf.now) c.args.name.now c.args.dimension (g.S.Shelf.rest c.begin.new.self)
+    header_leaves (g.S.Shelf.files c.args.shelf.now) c.args.name.now (needed_by c.args.axes) (g.S.Shelf.rest c.begin.new.self)
     (g.S.Shelf.rest c.read_header.new.shelf) c.in_err-header.field-0.0 c.in_ok-begin.ensures.begun c.in_err-header.ensures.causes
     c.in_err-header.ensures.undecided in
     IfErr-more c.from_residual-in_err-header.result (λ status. status ≡ grid_status c.in_err-header.field-0.0) _ c.from_residual-in_err-header.ensures.1
     (λ status is.
     subst
     (λ (s : Status).
-    LeavesGridFile (g.S.Shelf.files c.args.shelf.now) c.args.name.now c.args.dimension (g.S.Shelf.rest c.read_header.new.shelf) s)
+    LeavesGridFile (g.S.Shelf.files c.args.shelf.now) c.args.name.now (needed_by c.args.axes) (g.S.Shelf.rest c.read_header.new.shelf) s)
     (sym is) leaves)
 
-pub returns-then-header-dimension-clause-left : goal.returns-then-header-dimension-clause-left
-returns-then-header-dimension-clause-left g c = record {
+pub returns-then-header-needed-clause-left : goal.returns-then-header-needed-clause-left
+returns-then-header-needed-clause-left g c = record {
   samples =
       behind_read (g.S.Shelf.files c.args.shelf.now) c.args.name.now (g.S.Shelf.rest c.begin.new.self) (g.S.Shelf.rest c.read_header.new.shelf)
       c.in_ok-header.header c.in_ok-begin.ensures.begun c.in_ok-header.ensures.read;
@@ -112,10 +116,11 @@ pub returns-in_err-read_samples-clause-left : goal.returns-in_err-read_samples-c
 returns-in_err-read_samples-clause-left g c =
     let same : length c.in_ok-header.header.sizes ≡ c.header.inside.dims =
     ap (λ (h : Header). length h.sizes) (sym c.header.view_is) ∙ axes-stated c.header.inside.dims c.header.inside.sizes c.header.invariant in
-    let fits : c.args.dimension ≡ length c.in_ok-header.header.sizes = sym (same ∙ c.if-header-dimension.false) in
-    let leaves : LeavesGridFile (g.S.Shelf.files c.args.shelf.now) c.args.name.now c.args.dimension (g.S.Shelf.rest c.read_samples.new.shelf)
+    let fits : needed_by c.args.axes (length c.in_ok-header.header.sizes) ≡ length c.in_ok-header.header.sizes =
+    subst (λ (n : ℕ). needed_by c.args.axes n ≡ n) (sym same) (sym c.needed-needed.ensures ∙ sym c.if-header-needed.false) in
+    let leaves : LeavesGridFile (g.S.Shelf.files c.args.shelf.now) c.args.name.now (needed_by c.args.axes) (g.S.Shelf.rest c.read_samples.new.shelf)
     (grid_status c.in_err-read_samples.field-0.0) =
-    samples_leave (g.S.Shelf.files c.args.shelf.now) c.args.name.now c.args.dimension (g.S.Shelf.rest c.begin.new.self)
+    samples_leave (g.S.Shelf.files c.args.shelf.now) c.args.name.now (needed_by c.args.axes) (g.S.Shelf.rest c.begin.new.self)
     (g.S.Shelf.rest c.read_header.new.shelf) (g.S.Shelf.rest c.read_samples.new.shelf) c.in_ok-header.header c.in_err-read_samples.field-0.0
     c.in_ok-begin.ensures.begun c.in_ok-header.ensures.read fits
     (λ count is. ap g.S.Shelf.rest (c.in_err-read_samples.ensures.untouched (c.in_err-read_samples.ensures.large_only count (ap Err is)).0))
@@ -125,5 +130,13 @@ returns-in_err-read_samples-clause-left g c =
     (λ status is.
     subst
     (λ (s : Status).
-    LeavesGridFile (g.S.Shelf.files c.args.shelf.now) c.args.name.now c.args.dimension (g.S.Shelf.rest c.read_samples.new.shelf) s)
+    LeavesGridFile (g.S.Shelf.files c.args.shelf.now) c.args.name.now (needed_by c.args.axes) (g.S.Shelf.rest c.read_samples.new.shelf) s)
     (sym is) leaves)
+
+pub returns-clause-fits : goal.returns-clause-fits
+returns-clause-fits g c =
+    let same : length c.in_ok-header.header.sizes ≡ c.header.inside.dims =
+    ap (λ (h : Header). length h.sizes) (sym c.header.view_is) ∙ axes-stated c.header.inside.dims c.header.inside.sizes c.header.invariant in
+    let fits : needed_by c.args.axes (length c.in_ok-header.header.sizes) ≡ length c.in_ok-header.header.sizes =
+    subst (λ (n : ℕ). needed_by c.args.axes n ≡ n) (sym same) (sym c.needed-needed.ensures ∙ sym c.if-header-needed.false) in
+    subst (λ (sizes : List ℕ). needed_by c.args.axes (length sizes) ≡ length sizes) (sym c.in_ok-read_samples.ensures.sizes) fits
