@@ -1,8 +1,6 @@
-//! Tests of the words of the program and of its runs. They stand in a crate of their own, so that they are
-//! proved over what is proved already.
+//! Tests of the program's runs. They stand in a crate of their own, so that they are proved over what is proved
+//! already.
 #![tactic(auto)]
 
 #[cfg(test)]
 mod runs;
-#[cfg(test)]
-mod words;

@@ -1,6 +1,7 @@
 use iso_model::Kind;
 use iso_words::{Command, WrongWord, parse};
 use std::alloc::{AllocError, Global};
+use std::process::Abort;
 use std::test::Fail;
 
 // The words of a line, between single spaces; an empty line has none.
@@ -52,9 +53,11 @@ const fn spectrum<'a>(kind: Kind, grid: &'a str, from: i64, to: i64) -> Command<
     }
 }
 
-#[test]
-fn right_words_say_their_command(rt: HostRuntime) -> Result<(), Fail> {
-    let rows = [
+type Row = (&'static str, Command<'static>);
+
+// Tables and meshes that are made, with the keys in each order.
+fn generated_words() -> [Row; 18] {
+    [
         // each kind and dimension, in both orders of the keys
         ("generate kind=cube dim=2", generate(Kind::Cube, 2)),
         ("generate kind=cube dim=3", generate(Kind::Cube, 3)),
@@ -87,7 +90,12 @@ fn right_words_say_their_command(rt: HostRuntime) -> Result<(), Fail> {
             "demo size=64 kind=pyramid dim=3 seed=1",
             demo(Kind::Pyramid, 3, 64, 1),
         ),
-        // file names
+    ]
+}
+
+// Names of files.
+fn named_words() -> [Row; 7] {
+    [
         ("check table=a", check("a")),
         ("check table==x=y", check("=x=y")),
         ("check table=A", check("A")),
@@ -95,6 +103,12 @@ fn right_words_say_their_command(rt: HostRuntime) -> Result<(), Fail> {
         ("convert table=a", convert("a")),
         ("convert table=table=b", convert("table=b")),
         ("audit mesh=a.off", audit("a.off")),
+    ]
+}
+
+// Extractions: the keys in each order, and isovalues.
+fn extracted_words() -> [Row; 12] {
+    [
         // each order of the keys
         ("extract table=a grid=b iso=1", extract("a", "b", 1)),
         ("extract table=a iso=1 grid=b", extract("a", "b", 1)),
@@ -118,7 +132,12 @@ fn right_words_say_their_command(rt: HostRuntime) -> Result<(), Fail> {
             "extract table=iso=1 grid=table=a iso=2",
             extract("iso=1", "table=a", 2),
         ),
-        // ranges: of many isovalues, of one, of the greatest number, and at both ends
+    ]
+}
+
+// Ranges: of many isovalues, of one, of the greatest number, and at both ends.
+fn counted_words() -> [Row; 5] {
+    [
         (
             "spectrum kind=cube grid=a from=0 to=255",
             spectrum(Kind::Cube, "a", 0, 255),
@@ -139,12 +158,23 @@ fn right_words_say_their_command(rt: HostRuntime) -> Result<(), Fail> {
             "spectrum to=-1099511562241 from=-1099511627776 kind=cube grid=a",
             spectrum(Kind::Cube, "a", -1099511627776, -1099511562241),
         ),
-    ];
+    ]
+}
+
+fn check_rows(rt: &impl Abort, alloc: Global, rows: &[Row]) -> Result<(), Fail> {
     for (line, command) in rows {
-        let words = words_of(rt.alloc(), line)?;
-        assert_eq!(rt; parse(words.as_slice()), Ok(command), "at {line}");
+        let words = words_of(alloc, line)?;
+        assert_eq!(rt; parse(words.as_slice()), Ok(*command), "at {line}");
     }
     Ok(())
+}
+
+#[test]
+fn right_words_say_their_command(rt: HostRuntime) -> Result<(), Fail> {
+    check_rows(&rt, rt.alloc(), &generated_words())?;
+    check_rows(&rt, rt.alloc(), &named_words())?;
+    check_rows(&rt, rt.alloc(), &extracted_words())?;
+    check_rows(&rt, rt.alloc(), &counted_words())
 }
 
 // Lines, and the number of the first word that is wrong.

@@ -1,0 +1,6 @@
+//! Tests of the words of the program. They stand in a crate of their own, so that they are proved over what is proved
+//! already.
+#![tactic(auto)]
+
+#[cfg(test)]
+mod words;
