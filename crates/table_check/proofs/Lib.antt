@@ -1,3 +1,4 @@
 mod EmptyEntries
 mod PieceVerdicts
+mod PieceTraces
 mod RuleOrder

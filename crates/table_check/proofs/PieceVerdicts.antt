@@ -49,13 +49,18 @@ joined_pieces ss t parts low half count left right some less one two =
     joined_verdict ss t (start_of n parts low) (start_of n parts (low + half)) (start_of n parts (low + count)) left right
     (starts_ascend n parts low (low + half) some (omega arith)) (starts_ascend n parts (low + half) (low + count) some (omega arith)) one two'
 
+-- where the first piece begins, and where the last one ends
+pub first_start : (n parts : ℕ) → start_of n parts 0 ≡ 0
+first_start n parts = let z : 0 * n ≡ 0 = omega arith in ap (λ (k : ℕ). k / parts) z ∙ zero-div parts
+
+pub last_start : (n parts : ℕ) → 1 ≤ parts → start_of n parts (0 + parts) ≡ n
+last_start n parts some = let e : 0 + parts ≡ parts = omega arith in ap (λ (k : ℕ). k * n / parts) e ∙ mul-div_cancel_left n (omega arith)
+
 -- the verdict on all pieces is that on the table
 pub whole_pieces : (ss : List Seam) (t : Table) (parts : ℕ) (v : Verdict) → 1 ≤ parts → IsTable t → IsVerdictOnPieces ss t parts 0 parts v
     → IsVerdictOver ss t v
 whole_pieces ss t parts v some is verdict =
     let n = length t.entries in
-    let first : 0 * n / parts ≡ 0 = let z : 0 * n ≡ 0 = omega arith in ap (λ (k : ℕ). k / parts) z ∙ zero-div parts in
-    let last : (0 + parts) * n / parts ≡ n =
-    let e : 0 + parts ≡ parts = omega arith in ap (λ (k : ℕ). k * n / parts) e ∙ mul-div_cancel_left n (omega arith) in
     whole_verdict ss t n v is.whole
-    (subst (λ k. IsVerdictBetween ss t k n v) first (subst (λ k. IsVerdictBetween ss t (start_of n parts 0) k v) last verdict))
+    (subst (λ k. IsVerdictBetween ss t k n v) (first_start n parts)
+    (subst (λ k. IsVerdictBetween ss t (start_of n parts 0) k v) (last_start n parts some) verdict))
