@@ -2,7 +2,11 @@ pub mod ListsPlaceByPlace
 pub mod CrossedEnds
 pub mod PlacesOfWords
 pub mod WordVertices
+pub mod VerticesThere
 pub mod RowsOfVertices
+pub mod RowsToCentres
 pub mod RowsInGrids
+pub mod SlicesInGrids
 pub mod PlanesOfVertices
+pub mod PlanesToCentres
 pub mod CountedCells

@@ -4,11 +4,10 @@ use Rattle.std.proofs.Math.Nat.{mod-eq_of_lt}
 use Rattle.std.specs.Prelude.{ℕ, ◌+◌, ◌-◌, ◌*◌, ◌/◌, ◌%◌, ◌<◌, ◌≡◌, ◌==◌, List, [], ◌∷◌, drop, length, map, slice_index, if◌then◌else◌}
 use Rattle.lists.specs.Orders.{numbers}
 use Rattle.iso_model.specs.Dimensions.{IsDimension}
-use Rattle.iso_model.specs.Values.{product, sample_number}
+use Rattle.iso_model.specs.Values.{sample_number}
 use Rattle.edge_middles.specs.RowLists.{row_at, rows_at}
 use Rattle.edge_middles.specs.WhatIsThere.{sample_above, sample_below}
 use Rattle.edge_middles.proofs.PointsThere.{along_axis}
-use Rattle.grid_split.proofs.CubeNumbers.{product_of}
 use Rattle.grid_rows.specs.declared.grids.MiddleAxis.{MiddleAxis}
 use Rattle.grid_rows.specs.MiddleAxes.{axis_of, edge_span}
 
@@ -19,7 +18,6 @@ places_of d second height n =
 
 -- row n stands where the list of rows says, and the samples at its ends are those of the slices at its ends
 pub record StandsByRows (sizes : List ℕ) (d : ℕ) (second third : MiddleAxis) (height n : ℕ) : Type 0 where
-  pub count : product sizes ≡ slice_index sizes (d - 1) * (second.samples * third.samples * slice_index sizes 0)
   pub row : places_of d second height n ≡ row_at (drop 1 sizes) height n
   pub low : sample_number (drop 1 sizes) (sample_below (places_of d second height n))
       ≡ n % edge_span second / 2 + second.samples * (n / edge_span second / 2) + second.samples * third.samples * (height / 4)
@@ -52,7 +50,6 @@ high_in_four m k last i j h =
 
 in_two : (n last height row : ℕ) → row < 1 → StandsByRows (n ∷ last ∷ []) 2 (axis_of (n ∷ last ∷ []) 1) (axis_of (n ∷ last ∷ []) 2) height row
 in_two n last height row few = record {
-  count = product_of n (last ∷ []) ∙ ap (λ k. n * k) (product_of last []) ∙ omega arith;
   row = refl;
   low = omega (arith, few);
   high = omega (arith, few);
@@ -62,7 +59,6 @@ in_three : (n m last height row : ℕ) → row < (2 * m - 1) * 1
     → StandsByRows (n ∷ m ∷ last ∷ []) 3 (axis_of (n ∷ m ∷ last ∷ []) 1) (axis_of (n ∷ m ∷ last ∷ []) 2) height row
 in_three n m last height row few =
     let along = along_axis (2 * m - 1) 1 row few in record {
-      count = product_of n (m ∷ last ∷ []) ∙ ap (λ k. n * k) (product_of m (last ∷ []) ∙ ap (λ k. m * k) (product_of last [])) ∙ omega arith;
       row = refl;
       low = low_in_three m last (row % (2 * m - 1)) (row / (2 * m - 1)) (height / 4) along.1;
       high = high_in_three m last (row % (2 * m - 1)) (row / (2 * m - 1)) ((height + 2) / 4) along.1;
@@ -72,8 +68,6 @@ in_four : (n m k last height row : ℕ) → row < (2 * m - 1) * (2 * k - 1)
     → StandsByRows (n ∷ m ∷ k ∷ last ∷ []) 4 (axis_of (n ∷ m ∷ k ∷ last ∷ []) 1) (axis_of (n ∷ m ∷ k ∷ last ∷ []) 2) height row
 in_four n m k last height row few =
     let along = along_axis (2 * m - 1) (2 * k - 1) row few in record {
-      count = product_of n (m ∷ k ∷ last ∷ [])
-          ∙ ap (λ j. n * j) (product_of m (k ∷ last ∷ []) ∙ ap (λ j. m * j) (product_of k (last ∷ []) ∙ ap (λ j. k * j) (product_of last []))) ∙ omega arith;
       row = ap (λ j. 2 * (row % (2 * m - 1)) ∷ 2 * j ∷ height ∷ []) (sym (mod-eq_of_lt along.1));
       low = low_in_four m k last (row % (2 * m - 1)) (row / (2 * m - 1)) (height / 4);
       high = high_in_four m k last (row % (2 * m - 1)) (row / (2 * m - 1)) ((height + 2) / 4);

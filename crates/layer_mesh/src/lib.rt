@@ -5,9 +5,10 @@
 #![tactic(auto)]
 
 mod crossings;
+mod ends;
 mod rows;
 mod simplices;
 mod vertices;
 
 pub use simplices::add_cell;
-pub use vertices::{Heights, add_vertices};
+pub use vertices::{Heights, add_centre_vertices, add_vertices};

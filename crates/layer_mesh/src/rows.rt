@@ -1,66 +1,48 @@
-//! The vertices of a row of edges that join samples.
+//! The vertices of a row of edges.
 
 ghost use Rattle.std.specs.Prelude.{◌≡◌, ℕ, ◌+◌, ◌*◌, ◌^◌, ◌<◌, ◌≤◌, ◌==◌, ◌++◌, ◌∷◌, [], length, OnOk};
+ghost use Rattle.layer_mesh.specs.RowVertices.{IsCrossedRow, IsCrossedWord, IsFirstCrossed, IsSecondCrossed};
+ghost use Rattle.layer_mesh.specs.RowVertices.{IsSoundRow, first_vertex, one_if, place_vertices, row_vertices};
+ghost use Rattle.layer_mesh.specs.RowVertices.{second_vertex, word_vertices};
 
-use crate::crossings::crossing_along;
+use crate::ends::{CentreEnds, SampleEnds};
 use bit_rows::{Ones, bit};
 use grid_rows::EdgeWord;
 use iso_base::Memory;
 
-// A row of edges that join samples: the rows of samples at their ends, the first midpoint of the row, and the isovalue.
+// A row of edges: of those that join samples, or of those between centres and corners of cubes. At each place along
+// axis 0 it has two edges.
 #[derive(Clone, Copy)]
-pub(crate) struct RowEnds<'a, const D: usize> {
-    pub(crate) near: &'a [i64],
-    pub(crate) far: &'a [i64],
-    pub(crate) row: [u32; D],
-    pub(crate) iso: i64,
+pub(crate) enum RowEnds<'a, const D: usize> {
+    Samples(SampleEnds<'a, D>),
+    Centres(CentreEnds<'a, D>),
 }
 
 impl<const D: usize> RowEnds<'_, D> {
-    ghost use Rattle.layer_mesh.specs.RowVertices.{IsCrossed, IsSoundRow, first_vertex, middle_in, second_vertex};
-
     // The vertex on the first edge at x.
     fn first_vertex(&self, x: usize) -> [i64; D]
         requires sound { IsSoundRow self.now }
-        requires crossed { IsCrossed self.now x x }
+        requires crossed { IsFirstCrossed self.now x }
         ensures { result ≡ first_vertex self.now x }
     {
-        crossing_along(
-            &self.middle(4 * x as u32),
-            self.near[x],
-            self.far[x],
-            self.iso,
-        )
+        match self {
+            RowEnds::Samples(ends) => ends.vertex(4 * x as u32, x, x),
+            RowEnds::Centres(ends) => ends.vertex(4 * x as u32 + 1, x, x),
+        }
     }
 
     // The vertex on the second edge at x.
     fn second_vertex(&self, x: usize) -> [i64; D]
         requires sound { IsSoundRow self.now }
-        requires crossed { IsCrossed self.now x (x + 1) }
+        requires crossed { IsSecondCrossed self.now x }
         ensures { result ≡ second_vertex self.now x }
     {
-        crossing_along(
-            &self.middle(4 * x as u32 + 2),
-            self.near[x],
-            self.far[x + 1],
-            self.iso,
-        )
-    }
-
-    // The midpoint of the row that has this coordinate along axis 0.
-    fn middle(&self, coordinate: u32) -> [u32; D]
-        requires { 1 ≤ length self.now.row }
-        ensures { result ≡ middle_in self.now.row coordinate }
-    {
-        let mut middle = self.row;
-        middle[0] = coordinate;
-        middle
+        match self {
+            RowEnds::Samples(ends) => ends.vertex(4 * x as u32 + 2, x, x + 1),
+            RowEnds::Centres(ends) => ends.vertex(4 * x as u32 + 3, x, x + 1),
+        }
     }
 }
-
-ghost use Rattle.layer_mesh.specs.RowVertices.{IsCrossed, IsCrossedRow, IsCrossedWord, IsSoundRow, one_if};
-ghost use Rattle.layer_mesh.specs.RowVertices.{first_vertex, place_vertices, row_vertices, second_vertex};
-ghost use Rattle.layer_mesh.specs.RowVertices.{word_vertices};
 
 // Adds the vertices of a row, in their order.
 pub(crate) fn add_row<const D: usize>(
@@ -125,7 +107,7 @@ fn add_first<const D: usize>(
     ends: &RowEnds<'_, D>,
 ) -> Result<(), Memory>
     requires sound { IsSoundRow ends.now }
-    requires crossed { bit ≡ 1 → IsCrossed ends.now x x }
+    requires crossed { bit ≡ 1 → IsFirstCrossed ends.now x }
     ensures { OnOk result (vertices.new.items ≡ vertices.old.items ++ one_if (bit == 1) (first_vertex ends.now x)) }
 {
     if bit == 1 {
@@ -143,7 +125,7 @@ fn add_second<const D: usize>(
     ends: &RowEnds<'_, D>,
 ) -> Result<(), Memory>
     requires sound { IsSoundRow ends.now }
-    requires crossed { bit ≡ 1 → IsCrossed ends.now x (x + 1) }
+    requires crossed { bit ≡ 1 → IsSecondCrossed ends.now x }
     ensures { OnOk result (vertices.new.items ≡ vertices.old.items ++ one_if (bit == 1) (second_vertex ends.now x)) }
 {
     if bit == 1 {
