@@ -1,7 +1,9 @@
 -- The links found in the simplices, one simplex after the other, and the list of links.
-use Rattle.std.proofs.Common.{◌≡◌, ℕ, suc, ◌<◌, Bool, true, false, List, [], ◌∷◌, length, refl, inl, inr, ap, sym, ◌∙◌, subst, arith}
-use Rattle.std.specs.Prelude.{map, flat_map, Contains, ◌↔◌, ◌&&◌, nat_le, slice_index, if◌then◌else◌}
+use Rattle.std.proofs.Common.{◌≡◌, ℕ, suc, ◌+◌, ◌*◌, ◌<◌, ◌≤◌, Bool, true, false, List, [], ◌∷◌, length, refl, inl, inr, ap, sym, ◌∙◌, subst, arith}
+use Rattle.std.specs.Prelude.{map, count_by, flat_map, Contains, ◌↔◌, ◌&&◌, nat_le, slice_index, if◌then◌else◌}
 use Rattle.std.proofs.lemmas.Bool.{and_parts}
+use Rattle.std.proofs.lemmas.List.{length-append}
+use Rattle.std.proofs.lemmas.List.Sums.{length-filter, count_by-le-length}
 use Rattle.lists.specs.Orders.{numbers, has, is_distinct, put_in, sorted}
 use Rattle.lists.specs.Members.{In, Ascends, AscendsBy}
 use Rattle.lists.proofs.Orderings.{ascends_same}
@@ -193,3 +195,16 @@ links_are n late simplices = record {
   ascend = ascends_filter (is_link late simplices) (pairs n) (pairs_ascend n);
   parted = λ l c. (link_ends n late simplices l c).2;
 }
+
+-- a pair of which both ends are late, or none is, is no link
+pub not_parted : (late : ℕ → Bool) (ls : List Link) → AreLinks late ls → (l : Link) → is_parted late l ≡ false → Contains ls l → ⊥
+not_parted late ls are l e c = let p = are.parted l c in absurd (cc)
+
+-- each simplex has six edges
+pub found_few : (late : ℕ → Bool) (simplices : List (List ℕ)) → length (flat_map (links_in late) simplices) ≤ 6 * length simplices
+found_few late [] = omega arith
+found_few late (w ∷ ws) =
+    let some : length (links_in late w) ≡ count_by (is_parted late) (map (link_at w) (numbers 6)) =
+    length-filter (is_parted late) (map (link_at w) (numbers 6)) in
+    let six : count_by (is_parted late) (map (link_at w) (numbers 6)) ≤ 6 = count_by-le-length (is_parted late) (map (link_at w) (numbers 6)) in
+    omega (arith, length-append (links_in late w) (flat_map (links_in late) ws), some, six, found_few late ws)

@@ -6,11 +6,11 @@ use Rattle.std.specs.declared.cmp.Ordering.{Ordering}
 use Rattle.std.specs.declared.cmp.Ordering.TheVariants.{Less, Equal, Greater}
 use Rattle.std.specs.Cmp.{ranks, nat_cmp_is, IsTotalOrder, IsEquivalence, then_total}
 use Rattle.std.specs.List.{dedup, dedup_from}
-use Rattle.std.specs.List.Sorted.{IsSorted, IsBinarySearchResult, IsSearchInRange, IsPartitionPoint}
+use Rattle.std.specs.List.Sorted.{IsSorted, IsPermutation, IsBinarySearchResult, IsSearchInRange, IsPartitionPoint}
 use Rattle.std.proofs.lemmas.Bool.{cases_lt}
 use Rattle.std.proofs.lemmas.Cmp.{nat_cmp_total, tied_itself}
 use Rattle.std.proofs.lemmas.List.Kept.{Contains-from_dedup, Contains-dedup}
-use Rattle.std.proofs.lemmas.List.Sorted.{searchable_from_sorted}
+use Rattle.std.proofs.lemmas.List.Sorted.{searchable_from_sorted, Contains-permutation, IsPermutation-sym}
 use Rattle.std.proofs.lemmas.List.Sums.{position_or_len_is}
 use Rattle.lists.specs.Members.{AscendsBy}
 use Rattle.lists.proofs.Contained.{none_contained, Contains-split, Contains-at, Contains-head, Contains-tail}
@@ -195,6 +195,12 @@ number_at ls a i l h e =
     below_strict.irreflexive l (subst (λ (m : Link). Below m l) (sym f) (subst (Below (get_or ls k l)) e (ascends_places ls a k i l b h)))))
     (λ _. is_same_link l (get_or ls i l) (sym e))
 
+-- a link that is not among them has their number as its number
+pub number_none : (ls : List Link) (l : Link) → (Contains ls l → ⊥) → number_in ls l ≡ length ls
+number_none ls l none =
+    position_or_len_is (same_link l) ls (length ls) l (omega arith) (λ k w. not_same l (get_or ls k l) (λ f. none (k, w, sym f)))
+    (λ w. absurd (omega (arith, w)))
+
 -- what a search says of the number of a link: it is the place that was found, or that of no link
 abbrev pub SaysNumber : List Link → Link → Result ℕ ℕ → Type 0
 SaysNumber ls l r = MatchResult r (λ i. number_in ls l ≡ i) (λ i. number_in ls l ≡ length ls)
@@ -202,8 +208,7 @@ SaysNumber ls l r = MatchResult r (λ i. number_in ls l ≡ i) (λ i. number_in 
 pub searched_number : (ls : List Link) → AscendsBy Below ls → (l : Link) (r : Result ℕ ℕ) → IsSearchInRange r (length ls)
     → IsBinarySearchResult (λ y. link_cmp y l) ls r → SaysNumber ls l r
 searched_number ls a l (Ok i) b h = number_at ls a i l b (tied (get_or ls i l) l (h l))
-searched_number ls a l (Err i) b h =
-    position_or_len_is (same_link l) ls (length ls) l (omega arith) (λ k w. not_same l (get_or ls k l) (λ f. other k w f)) (λ w. absurd (omega (arith, w)))
+searched_number ls a l (Err i) b h = number_none ls l (λ c. other c.0 c.1 (sym c.2))
   where
     parted : IsPartitionPoint (λ y. link_cmp y l ≡ Less) (λ y. link_cmp y l ≡ Greater) ls i
     parted = h (searchable_from_sorted link_total (λ k. k) ls l (ascends_sorted ls a))
@@ -222,3 +227,14 @@ searched_number ls a l (Err i) b h =
       | inl c ↦ let e : link_cmp l l ≡ Less = subst (λ (m : Link). link_cmp m l ≡ Less) (sym f) (parted.0 k l (omega arith) c) in less_equal (sym e ∙ itself)
       | inr c ↦ let e : link_cmp l l ≡ Greater = subst (λ (m : Link). link_cmp m l ≡ Greater) (sym f) (parted.1 k l (omega (arith, c)) w) in greater_equal (sym e ∙ itself)
     ]
+
+-- links that are sorted and freed of repeats, where the same links were found before, ascend and are the ones that were found
+pub ordered_once : (found sorted : List Link) → IsPermutation found sorted → IsSorted link_cmp sorted
+    → AscendsBy Below (dedup same_link sorted) × ((l : Link) → Contains (dedup same_link sorted) l ↔ Contains found l)
+ordered_once found sorted order up = (
+  sorted_once sorted up,
+  λ l. (
+    λ c. Contains-permutation sorted found l (IsPermutation-sym found sorted order) ((same_once sorted l).0 c),
+    λ c. (same_once sorted l).1 (Contains-permutation found sorted l order c),
+  ),
+)

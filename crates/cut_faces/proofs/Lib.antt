@@ -1,0 +1,11 @@
+pub mod Sides
+pub mod MeshSides
+pub mod SeamEdges
+pub mod CutLinks
+pub mod CutPieces
+pub mod CutEntries
+pub mod CutSeams
+pub mod CutShares
+pub mod LawfulCut
+pub mod FreeSpans
+pub mod GluedCut
