@@ -1,0 +1,4 @@
+mod GrowingLists
+mod Shares
+mod WholeCuts
+mod PlacedTriangles
