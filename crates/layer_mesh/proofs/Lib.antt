@@ -10,3 +10,4 @@ pub mod SlicesInGrids
 pub mod PlanesOfVertices
 pub mod PlanesToCentres
 pub mod CountedCells
+pub mod CubesOfCells

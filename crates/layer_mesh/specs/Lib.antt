@@ -1,3 +1,4 @@
 pub mod RowVertices
 pub mod PlaneVertices
 pub mod CellNumbers
+pub mod CubeCells

@@ -4,11 +4,15 @@
 //! next, and 4x + 1 or 4x + 3 between a sample and the centre of the cube at x.
 #![tactic(auto)]
 
+mod cells;
 mod crossings;
+mod cubes;
 mod ends;
 mod rows;
 mod simplices;
 mod vertices;
 
+pub use cells::CubeCells;
+pub use cubes::add_cube;
 pub use simplices::add_cell;
 pub use vertices::{Heights, add_centre_vertices, add_vertices};
