@@ -11,3 +11,4 @@ pub mod PlanesOfVertices
 pub mod PlanesToCentres
 pub mod CountedCells
 pub mod CubesOfCells
+pub mod SignWordSteps

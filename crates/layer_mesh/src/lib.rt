@@ -9,6 +9,7 @@ mod crossings;
 mod cubes;
 mod ends;
 mod rows;
+mod signs;
 mod simplices;
 mod vertices;
 
