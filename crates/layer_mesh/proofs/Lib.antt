@@ -12,3 +12,7 @@ pub mod PlanesToCentres
 pub mod CountedCells
 pub mod CubesOfCells
 pub mod SignWordSteps
+pub mod SignsOfCubes
+pub mod MeshByLayers
+pub mod RowsOfCubes
+pub mod CubesTold

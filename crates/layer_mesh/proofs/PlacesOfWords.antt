@@ -1,11 +1,13 @@
 -- Lists that are made place by place of a word.
 use Rattle.std.proofs.Common.{ap, append-nil, arith, get_or, inl, inr, refl, sym, ◌∙◌}
 use Rattle.std.proofs.lemmas.List.{flat_map_more, map-append}
+use Rattle.std.specs.Int.{bit_at}
 use Rattle.std.specs.Prelude.{ℕ, zero, suc, ◌+◌, ◌*◌, ◌<◌, ◌≤◌, ◌≡◌, ◌++◌, Bool, true, false, List, [], ◌∷◌, filter, flat_map, length, map, if◌then◌else◌}
 use Rattle.lists.specs.Bits.{is_set}
 use Rattle.lists.specs.Members.{In}
 use Rattle.lists.specs.Orders.{numbers}
 use Rattle.lists.proofs.MemberLaws.{In_from_place, from_In-numbers, range-push}
+use Rattle.lists.proofs.Tests.{of_equal}
 use Rattle.bit_rows.specs.Rows.{places}
 use Rattle.bit_rows.proofs.SetPlaces.{of_places}
 
@@ -30,6 +32,10 @@ set_places h word none = passing_alone h (is_set word) (numbers 64) (λ k i. non
 pub place_below : (word n k : ℕ) → n < length (places word) → k ≡ get_or (places word) n k → k < 64
 place_below word n k inside same =
     (of_places word k (In_from_place (places word) k n inside (sym same))).0
+
+pub place_set : (word n k : ℕ) → n < length (places word) → k ≡ get_or (places word) n k → is_set word k ≡ true
+place_set word n k inside same =
+    of_equal (bit_at word k) 1 (of_places word k (In_from_place (places word) k n inside (sym same))).1
 
 -- ---- lists that are made number by number
 
@@ -58,7 +64,7 @@ none_from h n (suc d) none =
     ∙ ap (λ ys. flat_map h (numbers (n + d)) ++ ys) (none (n + d) (omega arith)) ∙ append-nil (flat_map h (numbers (n + d))) ∙ none_from h n d none
 
 -- numbers from a on
-from_number : {X : Type 0} (h : ℕ → List X) (a n : ℕ) → flat_map h (numbers a) ++ flat_map (λ k. h (a + k)) (numbers n) ≡ flat_map h (numbers (a + n))
+pub from_number : {X : Type 0} (h : ℕ → List X) (a n : ℕ) → flat_map h (numbers a) ++ flat_map (λ k. h (a + k)) (numbers n) ≡ flat_map h (numbers (a + n))
 from_number h a zero = let same : a ≡ a + 0 = omega arith in append-nil (flat_map h (numbers a)) ∙ ap (λ k. flat_map h (numbers k)) same
 from_number h a (suc n) =
     let more : n + 1 ≡ suc n = omega arith in

@@ -4,3 +4,4 @@ pub mod CellNumbers
 pub mod CubeCells
 pub mod PointSigns
 pub mod CubeSigns
+pub mod LayerCubes

@@ -8,6 +8,7 @@ mod cells;
 mod crossings;
 mod cubes;
 mod ends;
+mod layers;
 mod rows;
 mod signs;
 mod simplices;
